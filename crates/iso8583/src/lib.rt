@@ -1,0 +1,3 @@
+// Messages of ISO 8583: read from bytes, taken apart, and written again.
+pub mod fault;
+pub mod table;
