@@ -1,2 +1,4 @@
 pub mod Table
 pub mod Refusals
+pub mod Bitmap
+pub mod Reading

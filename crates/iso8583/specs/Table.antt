@@ -13,7 +13,7 @@ abbrev pub row : ℕ → Format → Length → Row
 row k f l = record { element = k; format = f; length = l }
 
 -- in rising order
-abbrev pub table : List Row
+unfoldable pub table : List Row
 table =
     row 2 Numeric (UpTo 19) ∷
     row 3 Numeric (Fixed 6) ∷

@@ -1,6 +1,7 @@
 // What is wrong with a message, or with a step of its writer.
 ghost use mathlib.Core.Path.{_≡_};
 ghost use Rattle.iso8583.specs.Refusals.{refusal};
+ghost use Rattle.iso8583.specs.declared.fault.MessageFault.the-variants.{Element};
 
 // The part of the switch that a refusal comes from.
 #[derive(Clone, Copy, PartialEq, Eq, Debug)]
@@ -53,6 +54,8 @@ pub enum MessageFault {
 }
 
 pub impl From<ElementFault> for MessageFault as MessageFaultFromElement {
+    ghost converts = { λ e m. m ≡ Element e };
+
     fn from(fault: ElementFault) -> MessageFault {
         MessageFault::Element(fault)
     }

@@ -1,3 +1,6 @@
 // Messages of ISO 8583: read from bytes, taken apart, and written again.
+pub mod bitmap;
 pub mod fault;
+pub mod found;
+mod read;
 pub mod table;

@@ -1,0 +1,83 @@
+// A message is read from the left: type, bitmaps, then each element that is marked.
+ghost use mathlib.Core.Bool.{true, false};
+ghost use mathlib.Core.Path.{_≡_};
+ghost use Prim.Native.Nat.{ℕ, _+_, _*_, _^_, _<_, _≤_};
+ghost use lib.ListN.{length, getD, drop};
+ghost use Rattle.std.specs.Options.{Cases as BySome};
+ghost use Rattle.std.specs.Text.{digitValue};
+ghost use Rattle.std.specs.Vec.{made};
+ghost use Rattle.iso8583.specs.Reading.{kind-of, half, bits-of};
+ghost use Rattle.iso8583.specs.Table.{decimal, hexadecimal};
+use crate::bitmap::is_marked;
+use crate::bitmap::joined;
+use crate::fault::MessageFault;
+
+// The decimal digit at a place, if one stands there.
+fn decimal_at(bytes: &[u8], place: usize) -> Option<u8>
+    ensures { λ r. ⌜ BySome r (decimal (getD (now (bytes .entry)) place 0) ≡ false) (λ d. (place < length (now (bytes .entry))) × (decimal (getD (now (bytes .entry)) place 0) ≡ true) × (d ≡ digitValue (getD (now (bytes .entry)) place 0)) × (d < 10)) ⌝ }
+{
+    if place >= bytes.len() {
+        return None;
+    }
+    match bytes[place] {
+        c @ b'0'..=b'9' => Some(c - b'0'),
+        _ => None,
+    }
+}
+
+// The hexadecimal digit at a place, if one stands there.
+fn hexadecimal_at(bytes: &[u8], place: usize) -> Option<u8>
+    ensures { λ r. ⌜ BySome r (hexadecimal (getD (now (bytes .entry)) place 0) ≡ false) (λ d. (place < length (now (bytes .entry))) × (hexadecimal (getD (now (bytes .entry)) place 0) ≡ true) × (d ≡ digitValue (getD (now (bytes .entry)) place 0)) × (d < 16)) ⌝ }
+{
+    if place >= bytes.len() {
+        return None;
+    }
+    match bytes[place] {
+        c @ b'0'..=b'9' => Some(c - b'0'),
+        c @ b'A'..=b'F' => Some(c - b'A' + 10),
+        _ => None,
+    }
+}
+
+pub(crate) fn read_kind(bytes: &[u8]) -> Result<u16, MessageFault>
+    ensures value { λ r. ⌜ r ≡ kind-of (now (bytes .entry)) ⌝ }
+    ensures long { λ r. ⌜ made r (λ _. 4 ≤ length (now (bytes .entry))) ⌝ }
+{
+    let mut kind = 0;
+    for place in 0..4 {
+        let Some(digit) = decimal_at(bytes, place) else {
+            return Err(MessageFault::Kind { place });
+        };
+        kind = kind * 10 + u16::from(digit);
+    }
+    Ok(kind)
+}
+
+// One bitmap, of which `rest` has what stands from its place on.
+fn read_half(rest: &[u8], at: usize) -> Result<u64, MessageFault>
+    requires { ⌜ at ≤ 20 ⌝ }
+    ensures value { λ r. ⌜ r ≡ half at (now (rest .entry)) ⌝ }
+    ensures long { λ r. ⌜ made r (λ _. 16 ≤ length (now (rest .entry))) ⌝ }
+{
+    let mut half = 0;
+    for i in 0..16 {
+        let Some(digit) = hexadecimal_at(rest, i) else {
+            return Err(MessageFault::Bitmap { place: at + i });
+        };
+        half = half * 16 + u64::from(digit);
+    }
+    Ok(half)
+}
+
+pub(crate) fn read_bitmap(bytes: &[u8]) -> Result<u128, MessageFault>
+    requires { ⌜ 4 ≤ length (now bytes) ⌝ }
+    ensures { λ r. ⌜ r ≡ bits-of (now (bytes .entry)) ⌝ }
+{
+    let high = read_half(&bytes[4..], 4)?;
+    let first = joined(high, 0);
+    if !is_marked(first, 1) {
+        return Ok(first);
+    }
+    let low = read_half(&bytes[20..], 20)?;
+    Ok(joined(high, low))
+}
