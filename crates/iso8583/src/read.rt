@@ -6,11 +6,16 @@ ghost use lib.ListN.{length, getD, drop};
 ghost use Rattle.std.specs.Options.{Cases as BySome};
 ghost use Rattle.std.specs.Text.{digitValue};
 ghost use Rattle.std.specs.Vec.{made};
-ghost use Rattle.iso8583.specs.Reading.{kind-of, half, bits-of};
+ghost use Rattle.iso8583.specs.Reading.{kind-of, half, bits-of, characters, two-digits, sized};
 ghost use Rattle.iso8583.specs.Table.{decimal, hexadecimal};
 use crate::bitmap::is_marked;
 use crate::bitmap::joined;
+use crate::fault::ElementFault;
 use crate::fault::MessageFault;
+use crate::found::Found;
+use crate::table::Format;
+use crate::table::Length;
+use crate::table::Row;
 
 // The decimal digit at a place, if one stands there.
 fn decimal_at(bytes: &[u8], place: usize) -> Option<u8>
@@ -80,4 +85,51 @@ pub(crate) fn read_bitmap(bytes: &[u8]) -> Result<u128, MessageFault>
     }
     let low = read_half(&bytes[20..], 20)?;
     Ok(joined(high, low))
+}
+
+// n characters of an element, of which `rest` has what stands from `start` on. With its length the element starts at `at`.
+fn read_characters(row: &Row, at: usize, start: usize, n: usize, rest: &[u8]) -> Result<Found, ElementFault>
+    requires { ⌜ start + length (now rest) < 2 ^ 64 ⌝ }
+    ensures { λ r. ⌜ r ≡ characters (now (row .entry)) at start n (now (rest .entry)) ⌝ }
+{
+    let element = row.element;
+    if rest.len() < n {
+        return Err(ElementFault::Ends { element, place: at });
+    }
+    for (i, c) in rest[0..n].iter().enumerate() {
+        if !row.format.fits(*c) {
+            return Err(ElementFault::Character { element, place: start + i });
+        }
+    }
+    Ok(Found { element, start, end: start + n })
+}
+
+// The number that two length digits write.
+fn two_digits(tens: u8, units: u8) -> Option<usize>
+    ensures { λ r. ⌜ r ≡ two-digits tens units ⌝ }
+{
+    if Format::Numeric.fits(tens) && Format::Numeric.fits(units) {
+        Some((tens - b'0') as usize * 10 + (units - b'0') as usize)
+    } else {
+        None
+    }
+}
+
+// An element, of which `rest` has what stands from `at` on.
+fn read_element(row: &Row, at: usize, rest: &[u8]) -> Result<Found, ElementFault>
+    requires { ⌜ at + length (now rest) < 2 ^ 64 ⌝ }
+    ensures { λ r. ⌜ r ≡ sized (now (row .entry) .length) (now (row .entry)) at (now (rest .entry)) ⌝ }
+{
+    let element = row.element;
+    let limit = match row.length {
+        Length::Fixed(n) => return read_characters(row, at, at, n as usize, rest),
+        Length::UpTo(limit) => limit as usize,
+    };
+    let [tens, units, rest @ ..] = rest else {
+        return Err(ElementFault::Ends { element, place: at });
+    };
+    match two_digits(*tens, *units) {
+        Some(n) if 1 <= n && n <= limit => read_characters(row, at, at + 2, n, rest),
+        _ => Err(ElementFault::Length { element, place: at }),
+    }
 }

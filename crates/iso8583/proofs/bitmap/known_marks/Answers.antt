@@ -1,7 +1,7 @@
 use mathlib.Core.Path.{_≡_, sym, ap, _∙_}
 use mathlib.Core.Bool.{_&&_, true, false}
 use native.Mathlib.Omega.{arith}
-use Prim.Native.Nat.{ℕ, _%_, _^_}
+use Prim.Native.Nat.{ℕ, _-_, _%_, _^_}
 use lib.Bits.{bitAnd, and-mask}
 use lib.Dec.{eqb}
 use Rattle.std.proofs.shelf.Tests.{ne-eqb, and-left, and-right}
