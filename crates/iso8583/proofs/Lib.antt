@@ -1,8 +1,12 @@
 pub mod Bits
+pub mod Digits
+pub mod Elements
 pub mod Firsts
 pub mod Marks
 pub mod Numerals
+pub mod Outcomes
 pub mod Rows
 pub mod Steps
 pub mod Values
+pub mod Walks
 pub mod Wrong

@@ -1,10 +1,10 @@
 -- How a loop over characters finds the first wrong one.
 use mathlib.Core.Path.{_≡_, refl, sym, ap, subst, _∙_}
 use mathlib.Core.Bool.{Bool, true, false, cond}
-use mathlib.Core.List.{List, [], _∷_}
+use mathlib.Core.List.{List, [], _∷_, _++_}
 use Prim.Native.Nat.{ℕ, zero, suc, _+_, _-_, _≤_, _<_}
 use native.Mathlib.Omega.{arith}
-use lib.ListN.{length, getD, drop}
+use lib.ListN.{length, getD, take, drop}
 use Rattle.std.specs.declared.option.Option.{Option}
 use Rattle.std.specs.declared.option.Option.the-variants.{Some, None}
 use Rattle.std.proofs.shelf.Lists.{drop-more, drop-all}
@@ -49,3 +49,27 @@ module _ (good : ℕ → Bool) (n at : ℕ) (cs : List ℕ) where
   -- at a place past the end `getD` gives 0, which passes no test of characters
   pub wrong-stops : (i : ℕ) → i < n → good (getD cs i 0) ≡ false → wrong-from i ≡ Some (at + i)
   wrong-stops i h g = ⊎-elim (λ l. wrong-here i h l g) (λ l. wrong-missing i h l) (cases-lt i (length cs))
+
+passed : {x : Option ℕ} (b : Bool) (i : ℕ) → cond b x (Some i) ≡ None → (b ≡ true) × (x ≡ None)
+passed true i h = (refl, h)
+passed false i h = absurd (let z : _≡_ {A = ℕ} 0 1 = cc in omega arith)
+
+-- characters that pass do so at any place, and with others behind them
+pub wrong-append : (good : ℕ → Bool) (n i j : ℕ) (cs rest : List ℕ) → n ≤ length cs → wrong good n i cs ≡ None → wrong good n j (cs ++ rest) ≡ None
+wrong-append good zero i j cs rest l w = refl
+wrong-append good (suc n) i j [] rest l w = absurd (omega arith)
+wrong-append good (suc n) i j (c ∷ cs) rest l w =
+    let p = passed (good c) i w in
+    cond-true _ _ _ (p .0) ∙ wrong-append good n (i + 1) (j + 1) cs rest (omega arith) (p .1)
+
+pub wrong-take : (good : ℕ → Bool) (n i j : ℕ) (cs : List ℕ) → wrong good n i cs ≡ None → wrong good n j (take n cs) ≡ None
+wrong-take good zero i j cs w = refl
+wrong-take good (suc n) i j [] w = absurd (let z : _≡_ {A = ℕ} 0 1 = cc in omega arith)
+wrong-take good (suc n) i j (c ∷ cs) w =
+    let p = passed (good c) i w in
+    cond-true _ _ _ (p .0) ∙ wrong-take good n (i + 1) (j + 1) cs (p .1)
+
+pub wrong-long : (good : ℕ → Bool) (n i : ℕ) (cs : List ℕ) → wrong good n i cs ≡ None → n ≤ length cs
+wrong-long good zero i cs w = omega arith
+wrong-long good (suc n) i [] w = absurd (let z : _≡_ {A = ℕ} 0 1 = cc in omega arith)
+wrong-long good (suc n) i (c ∷ cs) w = let r = wrong-long good n (i + 1) cs (passed (good c) i w .1) in omega arith

@@ -4,7 +4,7 @@ ghost use Prim.Native.Nat.{ℕ, _+_, _-_, _*_, _^_, _<_, _≤_};
 ghost use mathlib.Core.Bool.{_||_};
 ghost use lib.Dec.{eqb};
 ghost use Rattle.iso8583.specs.Bitmap.{marked, joined};
-ghost use Rattle.iso8583.specs.Reading.{marks-of};
+ghost use Rattle.iso8583.specs.Reading.{body, marks-of};
 ghost use Rattle.iso8583.specs.Table.{table, known};
 use crate::fault::MessageFault;
 use crate::table::rows;
@@ -22,6 +22,13 @@ pub(crate) fn is_marked(bitmap: u128, element: u8) -> bool
     ensures { λ r. ⌜ r ≡ marked bitmap element ⌝ }
 {
     (bitmap >> (128 - element)) & 1 == 1
+}
+
+// Where the first element of a message starts.
+pub(crate) fn body(bitmap: u128) -> usize
+    ensures { λ r. ⌜ r ≡ body bitmap ⌝ }
+{
+    if is_marked(bitmap, 1) { 36 } else { 20 }
 }
 
 // The first bitmap and the second as one.

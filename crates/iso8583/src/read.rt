@@ -6,16 +6,21 @@ ghost use lib.ListN.{length, getD, drop};
 ghost use Rattle.std.specs.Options.{Cases as BySome};
 ghost use Rattle.std.specs.Text.{digitValue};
 ghost use Rattle.std.specs.Vec.{made};
-ghost use Rattle.iso8583.specs.Reading.{kind-of, half, bits-of, characters, two-digits, sized};
+ghost use Rattle.iso8583.specs.Reading.{kind-of, half, bits-of, body, characters, two-digits, sized};
 ghost use Rattle.iso8583.specs.Table.{decimal, hexadecimal};
+ghost use Rattle.iso8583.specs.Walked.{Walked};
+use crate::bitmap::body;
 use crate::bitmap::is_marked;
 use crate::bitmap::joined;
 use crate::fault::ElementFault;
 use crate::fault::MessageFault;
+use crate::fault::MessageFaultFromElement;
 use crate::found::Found;
 use crate::table::Format;
 use crate::table::Length;
+use crate::table::ROWS;
 use crate::table::Row;
+use crate::table::rows;
 
 // The decimal digit at a place, if one stands there.
 fn decimal_at(bytes: &[u8], place: usize) -> Option<u8>
@@ -132,4 +137,26 @@ fn read_element(row: &Row, at: usize, rest: &[u8]) -> Result<Found, ElementFault
         Some(n) if 1 <= n && n <= limit => read_characters(row, at, at + 2, n, rest),
         _ => Err(ElementFault::Length { element, place: at }),
     }
+}
+
+// The elements that a bitmap marks, as far as the message has them: where they stand, and how many there are.
+pub(crate) fn read_elements(bytes: &[u8], bitmap: u128) -> Result<([Found; ROWS], usize), MessageFault>
+    requires { ⌜ body bitmap ≤ length (now bytes) ⌝ }
+    ensures { λ r. ⌜ Walked (now (bytes .entry)) bitmap r ⌝ }
+{
+    let mut found = [Found { element: 0, start: 0, end: 0 }; ROWS];
+    let mut count = 0;
+    let mut at = body(bitmap);
+    for row in rows() {
+        if is_marked(bitmap, row.element) {
+            let element = read_element(row, at, &bytes[at..])?;
+            found[count] = element;
+            count += 1;
+            at = element.end;
+        }
+    }
+    if at < bytes.len() {
+        return Err(MessageFault::Trailing { place: at });
+    }
+    Ok((found, count))
 }
