@@ -7,6 +7,8 @@ pub mod Numerals
 pub mod Outcomes
 pub mod Rows
 pub mod Steps
+pub mod Tiles
 pub mod Values
 pub mod Walks
+pub mod Wholes
 pub mod Wrong

@@ -2,5 +2,6 @@
 pub mod bitmap;
 pub mod fault;
 pub mod found;
+pub mod message;
 mod read;
 pub mod table;

@@ -1,0 +1,35 @@
+// A message over the bytes that it was read from.
+ghost use mathlib.Core.Path.{_≡_};
+ghost use Prim.Native.Nat.{_≤_};
+ghost use denote.Ref.{now};
+ghost use lib.ListN.{length, take};
+ghost use Rattle.std.specs.declared.result.Result.the-variants.{Ok};
+ghost use Rattle.iso8583.specs.Reading.{reading, parts, body};
+ghost use Rattle.iso8583.specs.Tiled.{Tiled};
+use crate::found::Found;
+use crate::table::ROWS;
+
+mod methods;
+
+// A message that was read: its bytes, the bitmap, and the offsets of its elements, of which `found` has `count`.
+// Every message that exists is what the format says of its bytes. Its elements lie inside them, in rising order and
+// without gap, from the bitmap's end to the last byte.
+#[derive(Clone, Copy)]
+pub struct Message<'a> {
+    bytes: &'a [u8],
+    kind: u16,
+    bitmap: u128,
+    found: [Found; ROWS],
+    count: usize,
+    ghost few: { count ≤ length found },
+    ghost whole: { ∥ reading (now bytes) ≡ Ok (parts kind bitmap (take count found)) ∥₁ },
+    ghost tiled: { ∥ Tiled (body bitmap) 1 (take count found) (length (now bytes)) ∥₁ },
+}
+
+// An element of a message: its characters, a part of the message's own bytes, and their offset there.
+#[derive(Clone, Copy)]
+pub struct Element<'a> {
+    pub number: u8,
+    pub offset: usize,
+    pub chars: &'a [u8],
+}

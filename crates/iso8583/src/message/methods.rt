@@ -1,0 +1,47 @@
+ghost use mathlib.Core.Path.{_≡_};
+ghost use lib.Chars.{codes};
+ghost use lib.ListN.{length, take};
+ghost use Rattle.iso8583.specs.Messages.{Took};
+use crate::bitmap::known_marks;
+use crate::fault::MessageFault;
+use crate::found::Found;
+use crate::message::Message;
+use crate::read::read_bitmap;
+use crate::read::read_elements;
+use crate::read::read_kind;
+use crate::table::ROWS;
+
+// The shortest message that there is: type 0000, and no elements.
+const SHORTEST: &[u8] = b"00000000000000000000";
+
+impl<'a> Message<'a> {
+    // A message to read another into.
+    pub fn shortest() -> Message<'a>
+        ensures { λ r. ⌜ now (r .bytes) ≡ codes "00000000000000000000" ⌝ }
+    {
+        Message {
+            bytes: SHORTEST,
+            kind: 0,
+            bitmap: 0,
+            found: [Found { element: 0, start: 0, end: 0 }; ROWS],
+            count: 0,
+        }
+    }
+
+    // Becomes the message that the bytes are, or stays as it is.
+    pub fn read(&mut self, bytes: &'a [u8]) -> Result<(), MessageFault>
+        ensures { λ r. ⌜ Took (now (bytes .entry)) (now (self .entry)) r (now (self .exit)) ⌝ }
+    {
+        let kind = read_kind(bytes)?;
+        let bitmap = known_marks(read_bitmap(bytes)?)?;
+        let (found, count) = read_elements(bytes, bitmap)?;
+        *self = Message { bytes, kind, bitmap, found, count };
+        Ok(())
+    }
+
+    pub fn kind(&self) -> u16
+        ensures { λ r. ⌜ r ≡ now (self .entry) .kind ⌝ }
+    {
+        self.kind
+    }
+}
