@@ -5,6 +5,7 @@ pub mod Firsts
 pub mod Marks
 pub mod Numerals
 pub mod Outcomes
+pub mod Presence
 pub mod Rows
 pub mod Steps
 pub mod Tiles

@@ -3,10 +3,10 @@ use mathlib.Core.Path.{_≡_, refl, sym, ap, subst, _∙_}
 use mathlib.Core.Bool.{Bool, true, false, cond}
 use mathlib.Core.List.{List, [], _∷_, _++_}
 use mathlib.Core.Logic.{⊎-elim}
-use Prim.Native.Nat.{ℕ, _+_, _-_, _≤_, _<_}
+use Prim.Native.Nat.{ℕ, zero, suc, _+_, _-_, _≤_, _<_}
 use native.Mathlib.Omega.{arith}
 use lib.Dec.{eqb}
-use lib.ListN.{length, drop}
+use lib.ListN.{length, getD, drop}
 use Rattle.std.specs.declared.result.Result.{Result}
 use Rattle.std.specs.declared.result.Result.the-variants.{Ok, Err}
 use Rattle.std.proofs.shelf.Lists.{length-append, length-drop, drop-at}
@@ -103,3 +103,14 @@ pub tiled : (bits : ℕ) (bs : List ℕ) (es : List Found) → body bits ≤ len
 tiled bits bs es l h =
     let end : body bits + length (drop (body bits) bs) ≡ length bs = omega (arith, length-drop (body bits) bs) in
     subst (Tiled (body bits) 1 es) end (tiles table 1 bits (body bits) (drop (body bits) bs) es proper-table (λ k h. refl) h)
+
+-- a tiling does not go back
+reaches : (es : List Found) (at low end : ℕ) → Tiled at low es end → at ≤ end
+reaches [] at low end t = omega arith
+reaches (e ∷ es) at low end t = let r = reaches es (e .end) (e .element) end (t .3) in omega (arith, t .1, t .2)
+
+-- every element of a tiling lies inside
+pub inside : (es : List Found) (at low end i : ℕ) (d : Found) → Tiled at low es end → i < length es → (getD es i d .start ≤ getD es i d .end) × (getD es i d .end ≤ end)
+inside [] at low end i d t h = absurd (omega arith)
+inside (e ∷ es) at low end zero d t h = (t .2, reaches es (e .end) (e .element) end (t .3))
+inside (e ∷ es) at low end (suc i) d t h = inside es (e .end) (e .element) end i d (t .3) (omega arith)

@@ -56,11 +56,11 @@ marks-same bits b h =
     let a = after-is-ok (unless (first (strange bits) 2 127) (λ k. Unknown k (marked-at k)) bits) (λ _. cond (marked bits 1 && eqb (bits % 2 ^ 64) 0) (Err Empty) (Ok bits)) b h in
     fine (marked bits 1 && eqb (bits % 2 ^ 64) 0) bits b (a .2)
 
-abbrev from-bits : List ℕ → ℕ → ℕ → Result Parts MessageFault
+abbrev pub from-bits : List ℕ → ℕ → ℕ → Result Parts MessageFault
 from-bits bs kind bits =
     after (marks-of bits) (λ _. after (elements table bits (body bits) (drop (body bits) bs)) (λ es. Ok (parts kind bits es)))
 
-abbrev from-kind : List ℕ → ℕ → Result Parts MessageFault
+abbrev pub from-kind : List ℕ → ℕ → Result Parts MessageFault
 from-kind bs kind = after (bits-of bs) (from-bits bs kind)
 
 -- a message in four steps

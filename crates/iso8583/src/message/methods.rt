@@ -1,10 +1,13 @@
 ghost use mathlib.Core.Path.{_≡_};
 ghost use lib.Chars.{codes};
 ghost use lib.ListN.{length, take};
-ghost use Rattle.iso8583.specs.Messages.{Took};
+ghost use Rattle.std.specs.Options.{isSome};
+ghost use Rattle.iso8583.specs.Messages.{Took, Handed, present};
+use crate::bitmap::is_marked;
 use crate::bitmap::known_marks;
 use crate::fault::MessageFault;
 use crate::found::Found;
+use crate::message::Element;
 use crate::message::Message;
 use crate::read::read_bitmap;
 use crate::read::read_elements;
@@ -43,5 +46,26 @@ impl<'a> Message<'a> {
         ensures { λ r. ⌜ r ≡ now (self .entry) .kind ⌝ }
     {
         self.kind
+    }
+
+    // Whether the message has an element.
+    pub fn has(&self, number: u8) -> bool
+        ensures { λ r. ⌜ r ≡ present (now (self .entry)) number ⌝ }
+    {
+        matches!(number, 2..=128) && is_marked(self.bitmap, number)
+    }
+
+    // An element, if the message has it: a part of the message's own bytes.
+    pub fn element(&self, number: u8) -> Option<Element<'a>>
+        ensures part { λ r. ⌜ Handed (now (self .entry)) number r ⌝ }
+        ensures there { λ r. ⌜ isSome r ≡ present (now (self .entry)) number ⌝ }
+    {
+        for i in 0..self.count {
+            let Found { element, start, end } = self.found[i];
+            if element == number {
+                return Some(Element { number, offset: start, chars: &self.bytes[start..end] });
+            }
+        }
+        None
     }
 }
