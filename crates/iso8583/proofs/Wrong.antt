@@ -73,3 +73,9 @@ pub wrong-long : (good : ℕ → Bool) (n i : ℕ) (cs : List ℕ) → wrong goo
 wrong-long good zero i cs w = omega arith
 wrong-long good (suc n) i [] w = absurd (let z : _≡_ {A = ℕ} 0 1 = cc in omega arith)
 wrong-long good (suc n) i (c ∷ cs) w = let r = wrong-long good n (i + 1) cs (passed (good c) i w .1) in omega arith
+
+-- only the first n characters count
+pub wrong-taken : (good : ℕ → Bool) (n i : ℕ) (cs : List ℕ) → n ≤ length cs → wrong good (length (take n cs)) i (take n cs) ≡ wrong good n i cs
+wrong-taken good zero i cs l = refl
+wrong-taken good (suc n) i [] l = absurd (omega arith)
+wrong-taken good (suc n) i (c ∷ cs) l = ap (λ o. cond (good c) o (Some i)) (wrong-taken good n (i + 1) cs (omega arith))

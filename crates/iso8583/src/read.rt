@@ -6,8 +6,8 @@ ghost use lib.ListN.{length, getD, drop};
 ghost use Rattle.std.specs.Options.{Cases as BySome};
 ghost use Rattle.std.specs.Text.{digitValue};
 ghost use Rattle.std.specs.Vec.{made};
-ghost use Rattle.iso8583.specs.Reading.{kind-of, half, bits-of, body, characters, two-digits, sized};
-ghost use Rattle.iso8583.specs.Table.{decimal, hexadecimal};
+ghost use Rattle.iso8583.specs.Reading.{kind-of, half, bits-of, body, wrong, characters, two-digits, sized};
+ghost use Rattle.iso8583.specs.Table.{decimal, hexadecimal, fits};
 ghost use Rattle.iso8583.specs.Walked.{Walked};
 use crate::bitmap::body;
 use crate::bitmap::is_marked;
@@ -92,6 +92,19 @@ pub(crate) fn read_bitmap(bytes: &[u8]) -> Result<u128, MessageFault>
     Ok(joined(high, low))
 }
 
+// The place of the first character that does not fit a format, counted from `start`.
+pub(crate) fn first_wrong(format: Format, start: usize, chars: &[u8]) -> Option<usize>
+    requires { ⌜ start + length (now chars) < 2 ^ 64 ⌝ }
+    ensures { λ r. ⌜ r ≡ wrong (fits format) (length (now (chars .entry))) start (now (chars .entry)) ⌝ }
+{
+    for (i, c) in chars.iter().enumerate() {
+        if !format.fits(*c) {
+            return Some(start + i);
+        }
+    }
+    None
+}
+
 // n characters of an element, of which `rest` has what stands from `start` on. With its length the element starts at `at`.
 fn read_characters(row: &Row, at: usize, start: usize, n: usize, rest: &[u8]) -> Result<Found, ElementFault>
     requires { ⌜ start + length (now rest) < 2 ^ 64 ⌝ }
@@ -101,10 +114,8 @@ fn read_characters(row: &Row, at: usize, start: usize, n: usize, rest: &[u8]) ->
     if rest.len() < n {
         return Err(ElementFault::Ends { element, place: at });
     }
-    for (i, c) in rest[0..n].iter().enumerate() {
-        if !row.format.fits(*c) {
-            return Err(ElementFault::Character { element, place: start + i });
-        }
+    if let Some(place) = first_wrong(row.format, start, &rest[0..n]) {
+        return Err(ElementFault::Character { element, place });
     }
     Ok(Found { element, start, end: start + n })
 }

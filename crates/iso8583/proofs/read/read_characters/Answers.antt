@@ -1,39 +1,35 @@
 use mathlib.Core.Path.{_≡_, sym, ap, _∙_}
 use mathlib.Core.List.{List}
-use Prim.Native.Nat.{ℕ, _+_, _-_, _<_, _≤_}
+use Prim.Native.Nat.{ℕ, _+_, _-_, _≤_}
 use native.Mathlib.Omega.{arith}
-use lib.ListN.{length, take, getD}
-use Rattle.std.proofs.shelf.Lists.{length-take, getD-take}
+use lib.ListN.{length, take}
+use Rattle.std.specs.declared.option.Option.{Option}
+use Rattle.std.specs.declared.option.Option.the-variants.{Some, None}
+use Rattle.std.specs.declared.result.Result.{Result}
 use Rattle.std.proofs.shelf.Tests.{cond-true, le-leb}
+use Rattle.iso8583.specs.declared.fault.ElementFault.{ElementFault}
+use Rattle.iso8583.specs.declared.fault.ElementFault.the-variants.{Character}
+use Rattle.iso8583.specs.declared.found.Found.{Found}
+use Rattle.iso8583.specs.declared.table.Row.{Row}
 use Rattle.iso8583.specs.Reading.{unless, wrong, characters}
 use Rattle.iso8583.specs.Table.{fits}
-use Rattle.std.specs.declared.option.Option.the-variants.{Some}
-use Rattle.std.specs.declared.result.Result.the-variants.{Err}
-use Rattle.iso8583.specs.declared.fault.ElementFault.the-variants.{Character}
-use Rattle.iso8583.specs.declared.table.Row.{Row}
-use Rattle.iso8583.proofs.Wrong.{wrong-more, wrong-stops}
+use Rattle.iso8583.proofs.Wrong.{wrong-taken}
 use Rattle.iso8583.proofs.read.read_characters.Needs as need
 
-misfit : (row : Row) (at start n : ℕ) (cs : List ℕ) (i : ℕ) → n ≤ length cs → wrong (fits (row .format)) n start cs ≡ Some i → Err (Character (row .element) i) ≡ characters row at start n cs
-misfit row at start n cs i l w =
-    sym (cond-true _ _ _ (le-leb n (length cs) l)
-      ∙ ap (λ o. unless o (λ k. Character (row .element) k) (record { element = row .element; start = start; end = start + n })) w)
+abbrev told : Row → ℕ → ℕ → Option ℕ → Result Found ElementFault
+told row start n o = unless o (λ i. Character (row .element) i) (record { element = row .element; start = start; end = start + n })
 
-pub returns-then-not-fits : need.returns-then-not-fits
-returns-then-not-fits c =
-    let cs = c .args .rest .now in
-    let n = c .args .n in
-    let i = c .loop-i .i in
-    let near : i < n = omega (arith, length-take (n - 0) cs) in
-    let bad = sym (c .if-not-fits .ensures tt ∙ ap (fits (c .args .row .now .format)) (getD-take (n - 0) cs i 0 (omega arith))) in
-    misfit (c .args .row .now) (c .args .at) (c .args .start) n cs (c .args .start + i) (omega arith)
-    (c .loop-i .inv ∙ wrong-stops (fits (c .args .row .now .format)) n (c .args .start) cs i near bad)
+-- what the first wrong character decides, once there are enough of them
+decided : (row : Row) (at start n : ℕ) (cs : List ℕ) (o : Option ℕ) → n ≤ length cs → o ≡ wrong (fits (row .format)) (length (take (n - 0) cs)) start (take (n - 0) cs) → told row start n o ≡ characters row at start n cs
+decided row at start n cs o l e =
+    let z : n - 0 ≡ n = omega arith in
+    ap (told row start n) (e ∙ ap (λ m. wrong (fits (row .format)) (length (take m cs)) start (take m cs)) z ∙ wrong-taken (fits (row .format)) n start cs l)
+      ∙ sym (cond-true _ _ _ (le-leb n (length cs) l))
 
-pub loop-i-again : need.loop-i-again
-loop-i-again c =
-    let cs = c .args .rest .now in
-    let n = c .args .n in
-    let i = c .loop-i .i in
-    let near : i < n = omega (arith, length-take (n - 0) cs) in
-    let good = sym (c .if-not-fits .ensures tt ∙ ap (fits (c .args .row .now .format)) (getD-take (n - 0) cs i 0 (omega arith))) in
-    c .loop-i .inv ∙ wrong-more (fits (c .args .row .now .format)) n (c .args .start) cs i near (omega arith) good
+pub returns-in-Some : need.returns-in-Some
+returns-in-Some c =
+    decided (c .args .row .now) (c .args .at) (c .args .start) (c .args .n) (c .args .rest .now) (Some (c .in-Some .place)) (omega arith) (c .in-Some .ensures tt)
+
+pub returns : need.returns
+returns c =
+    decided (c .args .row .now) (c .args .at) (c .args .start) (c .args .n) (c .args .rest .now) None (omega arith) (c .in-rest .ensures tt)
