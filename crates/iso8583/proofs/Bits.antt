@@ -13,7 +13,7 @@ use Rattle.std.proofs.shelf.Tests.{cases-order, eq-eqb, ne-eqb}
 use Rattle.std.proofs.shelf.Ways.{tells}
 use Rattle.iso8583.specs.Bitmap.{marked}
 
-bit-cases : (n : ℕ) → (n % 2 ≡ 0) ⊎ (n % 2 ≡ 1)
+pub bit-cases : (n : ℕ) → (n % 2 ≡ 0) ⊎ (n % 2 ≡ 1)
 bit-cases n = ⊎-elim inl (⊎-elim (λ h. absurd (omega arith)) (λ h. inr (omega arith))) (cases-order (n % 2) 0)
 
 -- two bits, by cases

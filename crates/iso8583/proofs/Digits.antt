@@ -1,11 +1,14 @@
 -- Digits as characters, and back.
 use mathlib.Core.Path.{_≡_, refl, sym, ap, _∙_}
 use mathlib.Core.Bool.{Bool, true, false, cond, _&&_}
-use mathlib.Core.List.{List, [], _∷_, _++_}
+use mathlib.Core.List.{List, [], _∷_, _++_, append-assoc}
 use mathlib.Core.Logic.{⊎-elim}
 use Prim.Native.Nat.{ℕ, zero, suc, _+_, _-_, _*_, _/_, _%_, _≤_, _<_}
+use native.Mathlib.Numerals.{add-one}
 use native.Mathlib.Omega.{arith}
 use lib.Dec.{leb, ltb, eqb}
+use lib.ListN.{length, set, drop}
+use Rattle.std.proofs.shelf.Lists.{drop-set}
 use Rattle.std.specs.declared.option.Option.the-variants.{Some, None}
 use Rattle.std.proofs.shelf.Tests.{cond-true, cond-false, lt-ltb, le-leb, leb-true, and-from, and-parts, cases-bool}
 use Rattle.iso8583.specs.Reading.{two-digits}
@@ -46,3 +49,9 @@ two-written a b n e =
       λ i. (digit-decimal (n / 10 % 10) (omega arith) ∙ tens) i ∷ (digit-decimal (n % 10) (omega arith) ∙ units) i ∷ [])
     (λ f. absurd (let s : None ≡ Some n = sym (cond-false _ _ _ f) ∙ e in let z : _≡_ {A = ℕ} 0 1 = cc in omega arith))
     (cases-bool (decimal a && decimal b))
+
+-- one more digit of a number that is written from the right
+pub spelled-more : (base m v d : ℕ) (all text : List ℕ) → m < length text → d ≡ digit (v % base) → all ≡ spelled base (suc m) v ++ drop (suc m) text → all ≡ spelled base m (v / base) ++ drop m (set text m d)
+spelled-more base m v d all text h e s =
+    s ∙ append-assoc (spelled base m (v / base)) (digit (v % base) ∷ []) (drop (suc m) text)
+      ∙ ap (λ l. spelled base m (v / base) ++ l) (ap (λ x. x ∷ drop (suc m) text) (sym e) ∙ ap (λ n. d ∷ drop n text) (sym (add-one m)) ∙ sym (drop-set text m d h))

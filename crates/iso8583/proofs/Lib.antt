@@ -1,13 +1,16 @@
 pub mod Bits
+pub mod Decimals
 pub mod Digits
 pub mod Elements
 pub mod Firsts
-pub mod Marks
+pub mod Fractions
 pub mod Numerals
 pub mod Outcomes
 pub mod Presence
 pub mod Rows
+pub mod Sets
 pub mod Steps
+pub mod Strangers
 pub mod Tiles
 pub mod Values
 pub mod Walks

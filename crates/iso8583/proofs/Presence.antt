@@ -12,7 +12,7 @@ use Rattle.std.specs.declared.option.Option.{Option}
 use Rattle.std.specs.declared.option.Option.the-variants.{Some, None}
 use Rattle.std.specs.declared.result.Result.{Result}
 use Rattle.std.specs.declared.result.Result.the-variants.{Ok, Err}
-use Rattle.std.proofs.shelf.Tests.{cond-true, cond-false, cases-bool, cases-eq, cases-lt, eq-eqb, ne-eqb, eqb-true, eqb-false, both-ways, and-left, and-right, and-from, and-parts, or-left, or-cases, le-leb, lt-leb, leb-true}
+use Rattle.std.proofs.shelf.Tests.{cond-true, cond-false, cases-bool, eqb-true, both-ways, and-left, and-right, and-from, and-parts, or-left, le-leb, leb-true}
 use Rattle.iso8583.specs.declared.fault.MessageFault.{MessageFault}
 use Rattle.iso8583.specs.declared.fault.MessageFault.the-variants.{Unknown, Empty}
 use Rattle.iso8583.specs.declared.found.Found.{Found}
@@ -21,8 +21,9 @@ use Rattle.iso8583.specs.Bitmap.{marked, first, strange}
 use Rattle.iso8583.specs.Messages.{found-of}
 use Rattle.iso8583.specs.Reading.{after, unless, kind-of, bits-of, marks-of, marked-at, body, elements, Parts, parts, reading}
 use Rattle.iso8583.specs.Table.{table, known, within}
+use Rattle.iso8583.proofs.Firsts.{first-none}
 use Rattle.iso8583.proofs.Outcomes.{never, same-ok, unless-ok, after-is-ok}
-use Rattle.iso8583.proofs.Rows.{Proper, proper, proper-first, proper-table}
+use Rattle.iso8583.proofs.Rows.{proper-table, known-range}
 use Rattle.iso8583.proofs.Tiles.{Stepped, stepped}
 use Rattle.iso8583.proofs.Wholes.{from-kind, from-bits}
 
@@ -51,23 +52,6 @@ taken-apart bs kind bits es h =
       known-only = ap marks-of (sym m) ∙ c .1;
       found = ap (λ x. elements table x (body x) (drop (body x) bs)) (sym m) ∙ d .1 ∙ ap (λ x. Ok x) e;
     }
-
-first-none : (test : ℕ → Bool) (i n : ℕ) → first test i n ≡ None → (j : ℕ) → i ≤ j → j < i + n → test j ≡ false
-first-none test i zero h j l r = absurd (omega arith)
-first-none test i (suc n) h j l r =
-    ⊎-elim
-    (λ t. absurd (let s : Some i ≡ None = sym (cond-true _ _ _ t) ∙ h in let z : _≡_ {A = ℕ} 0 1 = cc in omega arith))
-    (λ f. ⊎-elim (λ e. ap test (sym e) ∙ f) (λ n′. first-none test (i + 1) n (sym (cond-false _ _ _ f) ∙ h) j (omega arith) (omega arith)) (cases-eq i j))
-    (cases-bool (test i))
-
-known-range : (rows : List Row) (low k : ℕ) → proper low rows ≡ true → known rows k ≡ true → (low < k) × (k ≤ 128)
-known-range [] low k p h = absurd (both-ways false refl h)
-known-range (row ∷ rows) low k p h =
-    let q = proper-first low row rows p in
-    ⊎-elim
-    (λ t. let e = eqb-true (row .element) k t in (omega (arith, q .above), omega (arith, q .inside)))
-    (λ t. let r = known-range rows (row .element) k (q .others) t in (omega (arith, q .above, r .0), r .1))
-    (or-cases (eqb (row .element) k) (known rows k) h)
 
 -- by the rows: an element is found exactly if it is marked
 pub found-marked : (rows : List Row) (bits at : ℕ) (cs : List ℕ) (es : List Found) (k : ℕ) → elements rows bits at cs ≡ Ok es → isSome (found-of es k) ≡ (known rows k && marked bits k)

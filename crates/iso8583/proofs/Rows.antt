@@ -2,12 +2,13 @@
 use mathlib.Core.Path.{_≡_, refl, sym, ap, subst, _∙_}
 use mathlib.Core.Bool.{Bool, true, false, _&&_, _||_, or-false, or-assoc}
 use mathlib.Core.List.{List, [], _∷_, _++_}
+use mathlib.Core.Logic.{⊎-elim}
 use Prim.Native.Nat.{ℕ, zero, suc, _+_, _≤_, _<_}
 use native.Mathlib.Omega.{arith}
 use lib.Dec.{leb, ltb, eqb}
 use lib.ListN.{length, getD, take}
 use Rattle.std.proofs.shelf.Lists.{take-more, take-all}
-use Rattle.std.proofs.shelf.Tests.{and-parts, ltb-true, leb-true}
+use Rattle.std.proofs.shelf.Tests.{and-parts, or-cases, eqb-true, ltb-true, leb-true, both-ways}
 use Rattle.iso8583.specs.declared.table.Format.the-variants.{Numeric}
 use Rattle.iso8583.specs.declared.table.Length.{Length}
 use Rattle.iso8583.specs.declared.table.Length.the-variants.{Fixed, UpTo}
@@ -63,3 +64,13 @@ known-push (q ∷ rs) r k = ap (λ b. eqb (q .element) k || b) (known-push rs r 
 
 pub known-more : (rs : List Row) (i : ℕ) (d : Row) (k : ℕ) → i < length rs → known (take (i + 1) rs) k ≡ (known (take i rs) k || eqb (getD rs i d .element) k)
 known-more rs i d k h = ap (λ l. known l k) (take-more rs i d h) ∙ known-push (take i rs) (getD rs i d) k
+
+-- what the table knows is in range
+pub known-range : (rows : List Row) (low k : ℕ) → proper low rows ≡ true → known rows k ≡ true → (low < k) × (k ≤ 128)
+known-range [] low k p h = absurd (both-ways false refl h)
+known-range (row ∷ rows) low k p h =
+    let q = proper-first low row rows p in
+    ⊎-elim
+    (λ t. let e = eqb-true (row .element) k t in (omega (arith, q .above), omega (arith, q .inside)))
+    (λ t. let r = known-range rows (row .element) k (q .others) t in (omega (arith, q .above, r .0), r .1))
+    (or-cases (eqb (row .element) k) (known rows k) h)

@@ -1,8 +1,12 @@
+pub mod Announced
+pub mod Bitmap
+pub mod Messages
+pub mod Moments
+pub mod Numbers
+pub mod Originals
+pub mod Reading
+pub mod Refusals
 pub mod Table
 pub mod Tiled
 pub mod Walked
-pub mod Refusals
-pub mod Bitmap
-pub mod Messages
-pub mod Reading
 pub mod Writing

@@ -39,7 +39,7 @@ pub(crate) fn joined(high: u64, low: u64) -> u128
 }
 
 // The bits of the table's elements, and bit 1.
-fn known_bits() -> u128
+pub(crate) fn known_bits() -> u128
     ensures { λ r. ⌜ ((k : ℕ) → 1 ≤ k → k ≤ 128 → marked r k ≡ (eqb 1 k || known table k)) ⌝ }
 {
     let mut bits = bit(1);

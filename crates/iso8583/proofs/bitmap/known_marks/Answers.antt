@@ -6,7 +6,7 @@ use lib.Bits.{bitAnd, and-mask}
 use lib.Dec.{eqb}
 use Rattle.std.proofs.shelf.Tests.{ne-eqb, and-left, and-right}
 use Rattle.iso8583.specs.Bitmap.{marked}
-use Rattle.iso8583.proofs.Marks.{strange-refused, empty-refused, all-known}
+use Rattle.iso8583.proofs.Strangers.{strange-refused, empty-refused, all-known}
 use Rattle.iso8583.proofs.bitmap.known_marks.Needs as need
 use Rattle.iso8583.proofs.bitmap.known_marks.Needs.{else-is-marked·by·then-is-marked·else-bitmap-from-eq0, else-is-marked·by·else-is-marked}
 
