@@ -8,7 +8,7 @@ use native.Mathlib.Numerals.{add-one}
 use native.Mathlib.Omega.{arith}
 use lib.Dec.{leb, ltb, eqb}
 use lib.ListN.{length, set, drop}
-use Rattle.std.proofs.shelf.Lists.{drop-set}
+use Rattle.std.proofs.shelf.Lists.{drop-set, length-push}
 use Rattle.std.specs.declared.option.Option.the-variants.{Some, None}
 use Rattle.std.proofs.shelf.Tests.{cond-true, cond-false, lt-ltb, le-leb, leb-true, and-from, and-parts, cases-bool}
 use Rattle.iso8583.specs.Reading.{two-digits}
@@ -36,6 +36,7 @@ two-read n h =
 
 -- and the length that two digits write is written by them
 pub two-written : (a b n : ℕ) → two-digits a b ≡ Some n → spelled 10 2 n ≡ a ∷ b ∷ []
+unfolding spelled
 two-written a b n e =
     ⊎-elim
     (λ t.
@@ -52,6 +53,12 @@ two-written a b n e =
 
 -- one more digit of a number that is written from the right
 pub spelled-more : (base m v d : ℕ) (all text : List ℕ) → m < length text → d ≡ digit (v % base) → all ≡ spelled base (suc m) v ++ drop (suc m) text → all ≡ spelled base m (v / base) ++ drop m (set text m d)
+unfolding spelled
 spelled-more base m v d all text h e s =
     s ∙ append-assoc (spelled base m (v / base)) (digit (v % base) ∷ []) (drop (suc m) text)
       ∙ ap (λ l. spelled base m (v / base) ++ l) (ap (λ x. x ∷ drop (suc m) text) (sym e) ∙ ap (λ n. d ∷ drop n text) (sym (add-one m)) ∙ sym (drop-set text m d h))
+
+pub length-spelled : (base n v : ℕ) → length (spelled base n v) ≡ n
+unfolding spelled
+length-spelled base zero v = refl
+length-spelled base (suc n) v = length-push (spelled base n (v / base)) (digit (v % base)) ∙ ap (λ m. m + 1) (length-spelled base n (v / base)) ∙ add-one n

@@ -74,7 +74,7 @@ module _ (row : Row) (at n : ℕ) (cs : List ℕ) (e : Found) where
         fitting = ap (λ m. wrong (fits (row .format)) m 0 (take n cs)) long ∙ wrong-take (fits (row .format)) n (at + 2) 0 cs (c .passes);
         element = sym (ap (λ f. f .element) (c .is));
         starts = omega (arith, long, ap (λ f. f .start) (c .is), ap (λ f. f .end) (c .is));
-        ends = omega (arith, long, ap (λ f. f .end) (c .is));
+        ends = omega (arith, long, ap (λ f. f .end) (c .is), ap length front, length-append (spelled 10 2 (length (take n cs))) (take n cs));
       }
 
 spelt-measured : (row : Row) (at limit a b : ℕ) (cs : List ℕ) (e : Found) (o : Option ℕ) → two-digits a b ≡ o → measured o limit row at cs ≡ Ok e → Spelt (UpTo limit) row at (a ∷ b ∷ cs) e
@@ -100,6 +100,7 @@ taken row at start chars rest w =
       ∙ ap (λ o. unless o (λ i. Character (row .element) i) (record { element = row .element; start = start; end = start + length chars })) (wrong-append (fits (row .format)) (length chars) 0 start chars rest (omega arith) w)
 
 pub respelt : (l : Length) (row : Row) (at : ℕ) (chars rest : List ℕ) → short l ≡ true → admits l (length chars) ≡ true → wrong (fits (row .format)) (length chars) 0 chars ≡ None → sized l row at (field l chars ++ rest) ≡ Ok (found-at l row at (length chars))
+unfolding spelled
 respelt (Fixed n) row at chars rest s a w =
     let e = eqb-true (length chars) n a in
     ap (λ m. characters row at at m (chars ++ rest)) (sym e) ∙ taken row at at chars rest w

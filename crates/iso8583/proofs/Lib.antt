@@ -4,11 +4,13 @@ pub mod Digits
 pub mod Elements
 pub mod Firsts
 pub mod Fractions
+pub mod Lays
 pub mod Numerals
 pub mod Outcomes
 pub mod Presence
 pub mod Rows
 pub mod Sets
+pub mod Starts
 pub mod Steps
 pub mod Strangers
 pub mod Tiles

@@ -9,15 +9,10 @@ use lib.Dec.{leb, ltb, eqb}
 use lib.ListN.{length, getD, take}
 use Rattle.std.proofs.shelf.Lists.{take-more, take-all}
 use Rattle.std.proofs.shelf.Tests.{and-parts, or-cases, eqb-true, ltb-true, leb-true, both-ways}
-use Rattle.iso8583.specs.declared.table.Format.the-variants.{Numeric}
 use Rattle.iso8583.specs.declared.table.Length.{Length}
 use Rattle.iso8583.specs.declared.table.Length.the-variants.{Fixed, UpTo}
 use Rattle.iso8583.specs.declared.table.Row.{Row}
-use Rattle.iso8583.specs.Table.{table, known}
-
--- what a read of a row past the end would give
-abbrev pub blank : Row
-blank = record { element = 0; format = Numeric; length = Fixed 0 }
+use Rattle.iso8583.specs.Table.{table, blank, known}
 
 -- two digits can write each length
 abbrev pub short : Length → Bool

@@ -102,3 +102,6 @@ bits-back (suc n) b h =
     let low : at-bit (suc n) b (suc n) ≡ eqb (b % 2) 1 = let e : suc n - suc n ≡ 0 = omega arith in ap (λ m. eqb (b / 2 ^ m % 2) 1) e ∙ ap (λ m. eqb (m % 2) 1) (div-one b) in
     let high : bits-from (at-bit (suc n) b) n ≡ b / 2 = bits-same (at-bit (suc n) b) (at-bit n (b / 2)) n (λ k l r. half-bit n b k r) ∙ bits-back n (b / 2) (omega (arith, pow-suc 2 n)) in
     (λ i. high i * 2 + (ap bit low ∙ bit-of b) i) ∙ halves b
+
+pub announced-at : {es fs : List ℕ} {bits : ℕ} {s : Option ℕ} → es ≡ fs → Announced es bits s → Announced fs bits s
+announced-at {es} {fs} {bits} {s} e a = subst (λ l. Announced l bits s) e a

@@ -21,7 +21,8 @@ use Rattle.iso8583.specs.Bitmap.{marked}
 use Rattle.iso8583.specs.Reading.{after, before, lifted, element-at, elements, sized, body}
 use Rattle.iso8583.specs.Table.{table}
 use Rattle.iso8583.specs.Tiled.{Tiled, lead, lead-of}
-use Rattle.iso8583.specs.Writing.{field}
+use Rattle.iso8583.specs.Writing.{field, spelled}
+use Rattle.iso8583.proofs.Digits.{length-spelled}
 use Rattle.iso8583.proofs.Elements.{Spelt, spelt}
 use Rattle.iso8583.proofs.Outcomes.{never, same-ok, after-is-ok}
 use Rattle.iso8583.proofs.Rows.{Proper, proper, proper-first, proper-table}
@@ -64,7 +65,7 @@ stepped row rows bits at cs es m h =
 
 lead-field : (l : Length) (chars : List ℕ) → length (field l chars) ≡ lead l + length chars
 lead-field (Fixed n) chars = omega arith
-lead-field (UpTo limit) chars = omega arith
+lead-field (UpTo limit) chars = omega (arith, length-append (spelled 10 2 (length chars)) chars, length-spelled 10 2 (length chars))
 
 -- the rows are the table's, as far as elements above `low` go
 abbrev Above : ℕ → List Row → Type 0

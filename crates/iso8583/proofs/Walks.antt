@@ -16,10 +16,9 @@ use Rattle.iso8583.specs.declared.found.Found.{Found}
 use Rattle.iso8583.specs.declared.table.Row.{Row}
 use Rattle.iso8583.specs.Bitmap.{marked}
 use Rattle.iso8583.specs.Reading.{after, before, body, lifted, element-at, elements, sized}
-use Rattle.iso8583.specs.Table.{table}
+use Rattle.iso8583.specs.Table.{table, blank}
 use Rattle.iso8583.specs.Walked.{Walked}
 use Rattle.iso8583.proofs.Elements.{Spelt, spelt}
-use Rattle.iso8583.proofs.Rows.{blank}
 
 -- what was found already, before what is found yet
 abbrev pub prefixed : List Found → Result (List Found) MessageFault → Result (List Found) MessageFault

@@ -9,4 +9,5 @@ pub mod Refusals
 pub mod Table
 pub mod Tiled
 pub mod Walked
+pub mod Writers
 pub mod Writing

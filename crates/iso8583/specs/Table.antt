@@ -30,6 +30,10 @@ table =
     row 49 Numeric (Fixed 3) ∷
     row 90 Numeric (Fixed 42) ∷ []
 
+-- no row of the table
+abbrev pub blank : Row
+blank = row 0 Numeric (Fixed 0)
+
 -- the table has a row for the element
 abbrev pub known : List Row → ℕ → Bool
 known [] k = false

@@ -21,7 +21,7 @@ abbrev pub digit : ℕ → ℕ
 digit d = cond (ltb d 10) (48 + d) (55 + d)
 
 -- a number in n digits, the highest first
-abbrev pub spelled : ℕ → ℕ → ℕ → List ℕ
+unfoldable pub spelled : ℕ → ℕ → ℕ → List ℕ
 spelled base zero v = []
 spelled base (suc n) v = spelled base n (v / base) ++ digit (v % base) ∷ []
 
@@ -62,7 +62,7 @@ abbrev pub announced : List ℕ → Result ℕ MessageFault
 announced es = unless (first (outside es) 0 256) (λ k. Unknown k 0) (bits-from (marks es) 128)
 
 -- the type, the first bitmap, and the second if bit 1 is set
-abbrev pub head : ℕ → ℕ → List ℕ
+unfoldable pub head : ℕ → ℕ → List ℕ
 head kind bits =
     spelled 10 4 kind ++ (spelled 16 16 (bits / 2 ^ 64) ++ cond (marked bits 1) (spelled 16 16 (bits % 2 ^ 64)) [])
 

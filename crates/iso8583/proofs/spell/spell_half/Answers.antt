@@ -1,5 +1,5 @@
-use mathlib.Core.Path.{_≡_, sym, ap, subst, _∙_}
-use mathlib.Core.List.{List, _++_}
+use mathlib.Core.Path.{_≡_, refl, sym, ap, subst, _∙_}
+use mathlib.Core.List.{List, _++_, append-nil}
 use Prim.Native.Nat.{ℕ, suc, _-_, _+_, _%_, _/_, _<_}
 use native.Mathlib.Omega.{arith}
 use lib.Bits.{and-mask}
@@ -21,3 +21,13 @@ loop-i-again c =
     (length-set (c .loop-i .text) _ _ ∙ c .loop-i .inv .0,
       turn (c .loop-i .rest) (c .hex-digit .result) (c .loop-i .i) _ (c .loop-i .text) (omega arith) (c .loop-i .inv .0)
         (c .hex-digit .ensures ∙ ap digit (and-mask (c .loop-i .rest) 4)) (c .loop-i .inv .1))
+
+pub loop-i-holds : need.loop-i-holds
+loop-i-holds c = (refl, sym (append-nil (spelled 16 16 (c .args .half))))
+
+done : (i v : ℕ) (all text : List ℕ) → i ≡ 16 → all ≡ spelled 16 (16 - i) v ++ drop (16 - i) text → text ≡ all
+unfolding spelled
+done i v all text e s = sym (s ∙ ap (λ n. spelled 16 (16 - n) v ++ drop (16 - n) text) e)
+
+pub returns : need.returns
+returns c = done (c .loop-i .i) (c .loop-i .rest) _ (c .loop-i .text) (omega arith) (c .loop-i .inv .1)
