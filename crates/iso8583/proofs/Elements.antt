@@ -18,9 +18,9 @@ use Rattle.iso8583.specs.declared.table.Length.{Length}
 use Rattle.iso8583.specs.declared.table.Length.the-variants.{Fixed, UpTo}
 use Rattle.iso8583.specs.declared.table.Row.{Row}
 use Rattle.iso8583.specs.Reading.{wrong, unless, characters, measured, sized, two-digits}
-use Rattle.iso8583.specs.Table.{admits, fits, within}
+use Rattle.iso8583.specs.Table.{admits, fits, within, lead}
 use Rattle.iso8583.specs.Writing.{field, spelled}
-use Rattle.iso8583.proofs.Digits.{two-read, two-written}
+use Rattle.iso8583.proofs.Digits.{two-read, two-written, length-spelled}
 use Rattle.iso8583.proofs.Outcomes.{never, same-ok, chosen-ok, unless-ok}
 use Rattle.iso8583.proofs.Rows.{short}
 use Rattle.iso8583.proofs.Wrong.{wrong-append, wrong-take, wrong-long}
@@ -109,3 +109,8 @@ respelt (UpTo limit) row at chars rest s a w =
     let n = length chars in
     ap (λ o. measured o limit row at (chars ++ rest)) (two-read n (omega (arith, leb-true n limit (inside .1), leb-true limit 99 s)))
       ∙ cond-true _ _ _ a ∙ taken row at (at + 2) chars rest w
+
+-- an element's length digits and characters
+pub lead-field : (l : Length) (chars : List ℕ) → length (field l chars) ≡ lead l + length chars
+lead-field (Fixed n) chars = omega arith
+lead-field (UpTo limit) chars = omega (arith, length-append (spelled 10 2 (length chars)) chars, length-spelled 10 2 (length chars))

@@ -12,11 +12,11 @@ use Rattle.std.proofs.shelf.Tests.{and-parts, or-cases, eqb-true, ltb-true, leb
 use Rattle.iso8583.specs.declared.table.Length.{Length}
 use Rattle.iso8583.specs.declared.table.Length.the-variants.{Fixed, UpTo}
 use Rattle.iso8583.specs.declared.table.Row.{Row}
-use Rattle.iso8583.specs.Table.{table, blank, known}
+use Rattle.iso8583.specs.Table.{table, blank, known, admits}
 
 -- two digits can write each length
 abbrev pub short : Length → Bool
-short (Fixed n) = true
+short (Fixed n) = leb n 99
 short (UpTo n) = leb n 99
 
 -- the elements rise, from above `low` up to 128
@@ -52,6 +52,19 @@ in-range low (r ∷ rs) (suc i) d t h =
 
 pub in-table : (i : ℕ) (d : Row) → i < length table → (1 < getD table i d .element) × (getD table i d .element ≤ 128)
 in-table i d h = in-range 1 table i d proper-table h
+
+-- every length can be written in two digits
+short-at : (low : ℕ) (rs : List Row) (i : ℕ) (d : Row) → proper low rs ≡ true → i < length rs → short (getD rs i d .length) ≡ true
+short-at low [] i d t h = absurd (omega arith)
+short-at low (r ∷ rs) zero d t h = proper-first low r rs t .brief
+short-at low (r ∷ rs) (suc i) d t h = short-at (r .element) rs i d (proper-first low r rs t .others) (omega arith)
+
+pub short-in-table : (i : ℕ) (d : Row) → i < length table → short (getD table i d .length) ≡ true
+short-in-table i d h = short-at 1 table i d proper-table h
+
+pub admitted-short : (l : Length) (n : ℕ) → short l ≡ true → admits l n ≡ true → n ≤ 99
+admitted-short (Fixed m) n s a = omega (arith, eqb-true n m a, leb-true m 99 s)
+admitted-short (UpTo m) n s a = omega (arith, leb-true n m (and-parts (leb 1 n) (leb n m) a .1), leb-true m 99 s)
 
 known-push : (rs : List Row) (r : Row) (k : ℕ) → known (rs ++ r ∷ []) k ≡ (known rs k || eqb (r .element) k)
 known-push [] r k = or-false (eqb (r .element) k)

@@ -15,15 +15,13 @@ use Rattle.iso8583.specs.declared.fault.ElementFault.{ElementFault}
 use Rattle.iso8583.specs.declared.fault.MessageFault.{MessageFault}
 use Rattle.iso8583.specs.declared.found.Found.{Found}
 use Rattle.iso8583.specs.declared.table.Length.{Length}
-use Rattle.iso8583.specs.declared.table.Length.the-variants.{Fixed, UpTo}
 use Rattle.iso8583.specs.declared.table.Row.{Row}
 use Rattle.iso8583.specs.Bitmap.{marked}
 use Rattle.iso8583.specs.Reading.{after, before, lifted, element-at, elements, sized, body}
-use Rattle.iso8583.specs.Table.{table}
-use Rattle.iso8583.specs.Tiled.{Tiled, lead, lead-of}
-use Rattle.iso8583.specs.Writing.{field, spelled}
-use Rattle.iso8583.proofs.Digits.{length-spelled}
-use Rattle.iso8583.proofs.Elements.{Spelt, spelt}
+use Rattle.iso8583.specs.Table.{table, lead}
+use Rattle.iso8583.specs.Tiled.{Tiled, lead-of}
+use Rattle.iso8583.specs.Writing.{field}
+use Rattle.iso8583.proofs.Elements.{Spelt, spelt, lead-field}
 use Rattle.iso8583.proofs.Outcomes.{never, same-ok, after-is-ok}
 use Rattle.iso8583.proofs.Rows.{Proper, proper, proper-first, proper-table}
 
@@ -62,10 +60,6 @@ stepped row rows bits at cs es m h =
       spelled = s;
       on = ap (elements rows bits (e .end)) (sym (left-over (row .length) row at cs e s)) ∙ b .1;
     }
-
-lead-field : (l : Length) (chars : List ℕ) → length (field l chars) ≡ lead l + length chars
-lead-field (Fixed n) chars = omega arith
-lead-field (UpTo limit) chars = omega (arith, length-append (spelled 10 2 (length chars)) chars, length-spelled 10 2 (length chars))
 
 -- the rows are the table's, as far as elements above `low` go
 abbrev Above : ℕ → List Row → Type 0

@@ -60,3 +60,8 @@ fits Printable c = within 32 126 c
 abbrev pub admits : Length → ℕ → Bool
 admits (Fixed length) n = eqb n length
 admits (UpTo limit) n = within 1 limit n
+
+-- how many length digits stand before an element
+abbrev pub lead : Length → ℕ
+lead (Fixed n) = 0
+lead (UpTo limit) = 2

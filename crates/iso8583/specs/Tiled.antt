@@ -5,16 +5,10 @@ use mathlib.Core.List.{List, [], _∷_}
 use Prim.Native.Nat.{ℕ, _+_, _≤_, _<_}
 use lib.Dec.{eqb}
 use Rattle.iso8583.specs.declared.found.Found.{Found}
-use Rattle.iso8583.specs.declared.table.Length.{Length}
-use Rattle.iso8583.specs.declared.table.Length.the-variants.{Fixed, UpTo}
 use Rattle.iso8583.specs.declared.table.Row.{Row}
-use Rattle.iso8583.specs.Table.{table}
+use Rattle.iso8583.specs.Table.{table, lead}
 
--- how many length digits stand before an element
-abbrev pub lead : Length → ℕ
-lead (Fixed n) = 0
-lead (UpTo limit) = 2
-
+-- how many length digits stand before an element of the table
 abbrev pub lead-of : List Row → ℕ → ℕ
 lead-of [] k = 0
 lead-of (r ∷ rs) k = cond (eqb (r .element) k) (lead (r .length)) (lead-of rs k)

@@ -6,14 +6,15 @@ use lib.Dec.{leb, ltb, eqb}
 use lib.ListN.{length, take, drop}
 use Rattle.std.specs.declared.result.Result.{Result}
 use Rattle.std.specs.declared.result.Result.the-variants.{Ok, Err}
+use Rattle.iso8583.specs.declared.fault.ElementFault.{ElementFault}
 use Rattle.iso8583.specs.declared.fault.ElementFault.the-variants.{Length, Character}
 use Rattle.iso8583.specs.declared.fault.MessageFault.{MessageFault}
-use Rattle.iso8583.specs.declared.fault.MessageFault.the-variants.{Kind, Unknown, Element, Order, Room}
+use Rattle.iso8583.specs.declared.fault.MessageFault.the-variants.{Kind, Unknown, Order, Room}
 use Rattle.iso8583.specs.declared.table.Length.{Length as Lengths}
 use Rattle.iso8583.specs.declared.table.Length.the-variants.{Fixed, UpTo}
 use Rattle.iso8583.specs.declared.table.Row.{Row}
 use Rattle.iso8583.specs.Bitmap.{marked, first}
-use Rattle.iso8583.specs.Reading.{after, unless, wrong}
+use Rattle.iso8583.specs.Reading.{after, unless, lifted, wrong}
 use Rattle.iso8583.specs.Table.{table, known, admits, fits}
 
 -- the character of a digit: 0 to 9, then A to F
@@ -98,12 +99,15 @@ abbrev pub placing : List ℕ → ℕ → Row → List Row → List ℕ → Resu
 placing out used row rest cs =
     cond (leb (used + length (field (row .length) cs)) (length out)) (Ok (grown out used (field (row .length) cs) rest)) (Err (Room (row .element)))
 
--- its length and its characters are those of the table, and it fits the buffer
-abbrev pub filling : List ℕ → ℕ → Row → List Row → List ℕ → Result State MessageFault
-filling out used row rest cs =
+-- its length and its characters are those of the table
+abbrev pub checked : Row → List ℕ → Result (Unit {0}) ElementFault
+checked row cs =
     cond (admits (row .length) (length cs))
-    (after (unless (wrong (fits (row .format)) (length cs) 0 cs) (λ i. Element (Character (row .element) 0)) cs) (placing out used row rest))
-    (Err (Element (Length (row .element) 0)))
+    (unless (wrong (fits (row .format)) (length cs) 0 cs) (λ i. Character (row .element) 0) tt)
+    (Err (Length (row .element) 0))
+
+abbrev pub filling : List ℕ → ℕ → Row → List Row → List ℕ → Result State MessageFault
+filling out used row rest cs = after (lifted (checked row cs)) (λ _. placing out used row rest cs)
 
 -- an element: it is the next one announced
 abbrev pub next-is : List ℕ → ℕ → List Row → ℕ → List ℕ → Result State MessageFault

@@ -1,7 +1,7 @@
 // The elements that a message may have.
 ghost use mathlib.Core.Bool.{Bool};
 ghost use mathlib.Core.Path.{_≡_};
-ghost use Rattle.iso8583.specs.Table.{table, fits, admits};
+ghost use Rattle.iso8583.specs.Table.{table, fits, admits, lead};
 
 // The characters that an element is made of: `n` digits, `an` digits and letters, `ans` everything from blank to tilde.
 #[derive(Clone, Copy)]
@@ -67,6 +67,16 @@ impl Format {
 }
 
 impl Length {
+    // How many length digits stand before the element.
+    pub fn lead(self) -> usize
+        ensures { λ r. ⌜ r ≡ lead self ⌝ }
+    {
+        match self {
+            Length::Fixed(_) => 0,
+            Length::UpTo(_) => 2,
+        }
+    }
+
     // Whether an element may have n characters.
     pub fn admits(self, n: usize) -> bool
         ensures { λ r. ⌜ r ≡ admits self n ⌝ }

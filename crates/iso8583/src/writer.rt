@@ -7,16 +7,21 @@ ghost use Rattle.std.specs.Options.{Cases as BySome};
 ghost use Rattle.iso8583.specs.Announced.{Announced};
 ghost use Rattle.iso8583.specs.Reading.{body};
 ghost use Rattle.iso8583.specs.Table.{table, blank};
-ghost use Rattle.iso8583.specs.Writers.{state-of, Started, Put};
-ghost use Rattle.iso8583.specs.Writing.{head, laid, chosen, ending};
+ghost use Rattle.iso8583.specs.Writers.{Started, Placed, Put};
+ghost use Rattle.iso8583.specs.Writing.{head, field, laid, checked, chosen, ending};
 use crate::bitmap::body;
 use crate::bitmap::is_marked;
+use crate::fault::ElementFault;
 use crate::fault::MessageFault;
+use crate::fault::MessageFaultFromElement;
 use crate::marks::Marks;
+use crate::read::first_wrong;
 use crate::spell::lay;
 use crate::spell::spell_half;
 use crate::spell::spell_kind;
-use crate::table::ROWS;
+use crate::spell::spell_length;
+use crate::table::Length;
+use crate::table::Row;
 use crate::table::rows;
 
 // A writer under way. The buffer is passed to each step. Rows of the table before `row` are done with.
@@ -37,6 +42,38 @@ fn lay_head(out: &mut [u8], kind: u16, bitmap: u128)
     if is_marked(bitmap, 1) {
         lay(out, 20, &spell_half((bitmap & u128::from(u64::MAX)) as u64));
     }
+}
+
+// An element has a length and characters that the table allows.
+fn check(row: &Row, chars: &[u8]) -> Result<(), ElementFault>
+    ensures { λ r. ⌜ r ≡ checked (now (row .entry)) (now (chars .entry)) ⌝ }
+{
+    let element = row.element;
+    if !row.length.admits(chars.len()) {
+        return Err(ElementFault::Length { element, place: 0 });
+    }
+    if first_wrong(row.format, 0, chars).is_some() {
+        return Err(ElementFault::Character { element, place: 0 });
+    }
+    Ok(())
+}
+
+// Writes an element from a place on, after its length digits where its length varies. Answers where it ends, or none where it does
+// not fit the buffer.
+fn lay_field(out: &mut [u8], at: usize, size: Length, chars: &[u8]) -> Option<usize>
+    requires { ⌜ length (now chars) ≤ 99 ⌝ }
+    ensures { λ r. ⌜ Placed (now (out .entry)) at (field size (now (chars .entry))) r (now (out .exit)) ⌝ }
+{
+    let n = chars.len();
+    let lead = size.lead();
+    if out.len() < at || out.len() - at < lead + n {
+        return None;
+    }
+    if lead == 2 {
+        lay(out, at, &spell_length(n));
+    }
+    lay(out, at + lead, chars);
+    Some(at + lead + n)
 }
 
 impl Writer {
@@ -77,6 +114,26 @@ impl Writer {
             }
         }
         None
+    }
+
+    // One element more: the next one announced, with its characters. A refusal leaves writer and buffer as they were.
+    pub fn put(&mut self, out: &mut [u8], element: u8, chars: &[u8]) -> Result<(), MessageFault>
+        ensures { λ r. ⌜ Put (now (out .entry)) (now (self .entry)) element (now (chars .entry)) r (now (out .exit)) (now (self .exit)) ⌝ }
+    {
+        let Some(i) = self.next() else {
+            return Err(MessageFault::Order { next: 0 });
+        };
+        let row = rows()[i];
+        if row.element != element {
+            return Err(MessageFault::Order { next: row.element });
+        }
+        check(&row, chars)?;
+        let Some(used) = lay_field(out, self.used, row.length, chars) else {
+            return Err(MessageFault::Room { element });
+        };
+        self.used = used;
+        self.row = i + 1;
+        Ok(())
     }
 
     // Ends the message, and answers its length.
