@@ -63,7 +63,7 @@ turned half whole q e h =
 own : (j : ℕ) → 2 ^ j / 2 ^ j ≡ 1
 own j = ap (λ n. n / 2 ^ j) (sym (one-mul (2 ^ j))) ∙ shl-shr 1 j
 
-vanished : (a i j : ℕ) → a < 2 ^ i → i ≤ j → a / 2 ^ j ≡ 0
+pub vanished : (a i j : ℕ) → a < 2 ^ i → i ≤ j → a / 2 ^ j ≡ 0
 vanished a i j h l =
     let p : 2 ^ i ≤ 2 ^ j = pow-le-pow-right {n = 2} (omega arith) {i = i} {j = j} l in
     div-eq-of-lt (omega arith)

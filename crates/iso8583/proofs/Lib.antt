@@ -5,11 +5,14 @@ pub mod Elements
 pub mod Firsts
 pub mod Fractions
 pub mod Lays
+pub mod Lows
 pub mod Numerals
 pub mod Outcomes
 pub mod Presence
+pub mod Puts
 pub mod Rows
 pub mod Sets
+pub mod Spellings
 pub mod Starts
 pub mod Steps
 pub mod Strangers

@@ -50,7 +50,7 @@ module _ (good : ℕ → Bool) (n at : ℕ) (cs : List ℕ) where
   pub wrong-stops : (i : ℕ) → i < n → good (getD cs i 0) ≡ false → wrong-from i ≡ Some (at + i)
   wrong-stops i h g = ⊎-elim (λ l. wrong-here i h l g) (λ l. wrong-missing i h l) (cases-lt i (length cs))
 
-passed : {x : Option ℕ} (b : Bool) (i : ℕ) → cond b x (Some i) ≡ None → (b ≡ true) × (x ≡ None)
+pub passed : {x : Option ℕ} (b : Bool) (i : ℕ) → cond b x (Some i) ≡ None → (b ≡ true) × (x ≡ None)
 passed true i h = (refl, h)
 passed false i h = absurd (let z : _≡_ {A = ℕ} 0 1 = cc in omega arith)
 

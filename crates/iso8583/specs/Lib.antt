@@ -1,5 +1,7 @@
 pub mod Announced
 pub mod Bitmap
+pub mod Composes
+pub mod Contents
 pub mod Messages
 pub mod Moments
 pub mod Numbers
