@@ -1,4 +1,5 @@
 pub mod Bits
+pub mod Bodies
 pub mod Decimals
 pub mod Digits
 pub mod Elements
