@@ -77,6 +77,23 @@ pub impl<T: Drop> From<Refused<T>> for LineFault as LineFaultFromRefused {
     }
 }
 
+// The first line of a deck that is no command, counted from 1.
+#[derive(Clone, Copy, Debug)]
+pub struct DeckFault {
+    pub line: usize,
+    pub fault: LineFault,
+}
+
+pub impl fmt::Display for DeckFault as DeckFaultDisplay {
+    fn fmt<W: fmt::Write>(&self, f: &mut fmt::Formatter<W>) -> fmt::Result {
+        let line = self.line;
+        let fault = self.fault;
+        write!(f, "line {line}: {fault}")
+    }
+}
+
+pub impl Error for DeckFault as DeckFaultError {}
+
 impl Keyword {
     pub fn of(word: &[u8]) -> Option<Keyword>
         ensures { λ r. ⌜ r ≡ keyword-of (now (word .entry)) ⌝ }
@@ -146,22 +163,15 @@ pub fn read_line(heap: Global, line: &[u8]) -> Result<Option<Command>, LineFault
     }
 }
 
-// The first line of a deck that is no command, counted from 1.
-#[derive(Clone, Copy, Debug)]
-pub struct DeckFault {
-    pub line: usize,
-    pub fault: LineFault,
-}
-
-pub impl fmt::Display for DeckFault as DeckFaultDisplay {
-    fn fmt<W: fmt::Write>(&self, f: &mut fmt::Formatter<W>) -> fmt::Result {
-        let line = self.line;
-        let fault = self.fault;
-        write!(f, "line {line}: {fault}")
+// Adds what a line asks for to the commands before it.
+fn take_line(heap: Global, commands: &mut Vec<Command>, line: &[u8]) -> Result<(), LineFault>
+    ensures { λ r. ⌜ Cases r (λ _. with-line (map meant (vec-items (now (commands .entry)))) (asked (now (line .entry))) ≡ Some (map meant (vec-items (now (commands .exit))))) (λ e. Blames e (asked (now (line .entry)) ≡ None)) ⌝ }
+{
+    if let Some(command) = read_line(heap, line)? {
+        commands.push(command)?;
     }
+    Ok(())
 }
-
-pub impl Error for DeckFault as DeckFaultError {}
 
 // The commands of a deck, in their order.
 #[derive(Drop)]
@@ -186,14 +196,4 @@ impl Deck {
         }
         Ok(Deck { commands })
     }
-}
-
-// Adds what a line asks for to the commands before it.
-fn take_line(heap: Global, commands: &mut Vec<Command>, line: &[u8]) -> Result<(), LineFault>
-    ensures { λ r. ⌜ Cases r (λ _. with-line (map meant (vec-items (now (commands .entry)))) (asked (now (line .entry))) ≡ Some (map meant (vec-items (now (commands .exit))))) (λ e. Blames e (asked (now (line .entry)) ≡ None)) ⌝ }
-{
-    if let Some(command) = read_line(heap, line)? {
-        commands.push(command)?;
-    }
-    Ok(())
 }
