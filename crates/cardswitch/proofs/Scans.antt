@@ -1,4 +1,4 @@
--- How a loop over the bytes of a word reads a number.
+-- How loops over bytes read a number and pairs of hexadecimal digits.
 use mathlib.Core.Path.{_≡_, refl, sym, ap, subst, _∙_}
 use mathlib.Core.Bool.{true, false, cond}
 use mathlib.Core.List.{List, [], _∷_, _++_, append-assoc}
