@@ -34,10 +34,10 @@ pub fn run(rt: &LibcRuntime, deck: &Deck) -> Result<(), AnyError> {
 
 // Prints the type of a message, its elements, and the message that the writer makes from them again.
 fn take_apart(rt: &LibcRuntime, bytes: &[u8], room: usize) -> Result<(), AnyError> {
-    let message = match Message::read(bytes) {
-        Ok(message) => message,
-        Err(fault) => return Ok(print_refusal(rt, fault.refusal())?),
-    };
+    let mut message = Message::shortest();
+    if let Err(fault) = message.read(bytes) {
+        return Ok(print_refusal(rt, fault.refusal())?);
+    }
     let kind = message.kind();
     println!(rt, "type {kind:04}")?;
     let mut elements = Vec::new(rt.alloc());

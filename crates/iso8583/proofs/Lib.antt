@@ -1,3 +1,4 @@
+pub mod Bitmaps
 pub mod Bits
 pub mod Bodies
 pub mod Decimals
@@ -5,6 +6,7 @@ pub mod Digits
 pub mod Elements
 pub mod Firsts
 pub mod Fractions
+pub mod Heads
 pub mod Lays
 pub mod Lows
 pub mod Numerals

@@ -85,10 +85,10 @@ bit-of : (m : ℕ) → bit (eqb (m % 2) 1) ≡ m % 2
 bit-of m = ⊎-elim (λ e. ap (λ r. bit (eqb r 1)) e ∙ sym e) (λ e. ap (λ r. bit (eqb r 1)) e ∙ sym e) (bit-cases m)
 
 -- bit k of n
-abbrev at-bit : ℕ → ℕ → ℕ → Bool
+abbrev pub at-bit : ℕ → ℕ → ℕ → Bool
 at-bit n b k = eqb (b / 2 ^ (n - k) % 2) 1
 
-half-bit : (n b k : ℕ) → k ≤ n → at-bit (suc n) b k ≡ at-bit n (b / 2) k
+pub half-bit : (n b k : ℕ) → k ≤ n → at-bit (suc n) b k ≡ at-bit n (b / 2) k
 half-bit n b k h =
     let e : suc n - k ≡ 1 + (n - k) = omega arith in
     ap (λ m. eqb (b / 2 ^ m % 2) 1) e ∙ ap (λ m. eqb (m % 2) 1) (sym (shr-shr b 1 (n - k)))
