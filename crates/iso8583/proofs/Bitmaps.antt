@@ -69,7 +69,7 @@ one-marked (n ∷ ns) e l h =
     (λ t. or-right (ltb 64 n) _ (one-marked ns e l t))
     (or-cases (eqb n e) (listed ns e) h)
 
-listed-small : (ns : List ℕ) (k : ℕ) → first (outside ns) 0 256 ≡ None → listed ns k ≡ true → k < 256 → known table k ≡ true
+pub listed-small : (ns : List ℕ) (k : ℕ) → first (outside ns) 0 256 ≡ None → listed ns k ≡ true → k < 256 → known table k ≡ true
 listed-small ns k h l s =
     ⊎-elim (λ t. t) (λ f. absurd (both-ways (outside ns k) (first-none (outside ns) 0 256 h k (omega arith) (omega arith)) (and-from (listed ns k) (not (known table k)) l (ap not f)))) (cases-bool (known table k))
 

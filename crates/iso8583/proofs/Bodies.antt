@@ -57,7 +57,7 @@ laid-nothing : (out : List ℕ) (at : ℕ) → out ≡ laid out at []
 laid-nothing out at = same-lists _ _ (search (needs, places)) (λ k d l. grind (arith, places))
 
 -- a step that was taken
-on-ok : (r : Result State MessageFault) (out : List ℕ) (next : State → Composed) (n : ℕ) → on r out next .answer ≡ Ok n → (s : State) × (r ≡ Ok s) × (on r out next ≡ next s)
+pub on-ok : (r : Result State MessageFault) (out : List ℕ) (next : State → Composed) (n : ℕ) → on r out next .answer ≡ Ok n → (s : State) × (r ≡ Ok s) × (on r out next ≡ next s)
 on-ok (Ok s) out next n h = (s, refl, refl)
 on-ok (Err f) out next n h = absurd (never h)
 

@@ -105,7 +105,7 @@ respelt (Fixed n) row at chars rest s a w =
     let e = eqb-true (length chars) n a in
     ap (λ m. characters row at at m (chars ++ rest)) (sym e) ∙ taken row at at chars rest w
 respelt (UpTo limit) row at chars rest s a w =
-    let inside = and-parts _ _ a in
+    let inside = and-parts (leb 1 (length chars)) (leb (length chars) limit) a in
     let n = length chars in
     ap (λ o. measured o limit row at (chars ++ rest)) (two-read n (omega (arith, leb-true n limit (inside .1), leb-true limit 99 s)))
       ∙ cond-true _ _ _ a ∙ taken row at (at + 2) chars rest w

@@ -13,6 +13,7 @@ pub mod Numerals
 pub mod Outcomes
 pub mod Presence
 pub mod Puts
+pub mod Rounds
 pub mod Rows
 pub mod Sets
 pub mod Spellings

@@ -12,7 +12,7 @@ use Rattle.std.specs.declared.option.Option.{Option}
 use Rattle.std.specs.declared.option.Option.the-variants.{Some, None}
 use Rattle.std.specs.declared.result.Result.{Result}
 use Rattle.std.specs.declared.result.Result.the-variants.{Ok, Err}
-use Rattle.std.proofs.shelf.Tests.{cond-true, cond-false, cases-bool, eqb-true, both-ways, and-left, and-right, and-from, and-parts, or-left, le-leb, leb-true}
+use Rattle.std.proofs.shelf.Tests.{cond-true, cond-false, cases-bool, eqb-true, eq-eqb, both-ways, and-left, and-right, and-from, and-parts, or-left, le-leb, leb-true}
 use Rattle.iso8583.specs.declared.fault.MessageFault.{MessageFault}
 use Rattle.iso8583.specs.declared.fault.MessageFault.the-variants.{Unknown, Empty}
 use Rattle.iso8583.specs.declared.found.Found.{Found}
@@ -77,8 +77,14 @@ found-marked (row ∷ rows) bits at cs es k h =
         (cases-bool (eqb (row .element) k)))
     (cases-bool (marked bits (row .element)))
 
+-- a second bitmap that is announced marks something
+pub second-marks : (bits marks : ℕ) → marks-of bits ≡ Ok marks → marked bits 1 ≡ true → bits % 2 ^ 64 ≡ 0 → ⊥
+second-marks bits marks h m e =
+    let a = after-is-ok (unless (first (strange bits) 2 127) (λ j. Unknown j (marked-at j)) bits) (λ _. cond (marked bits 1 && eqb (bits % 2 ^ 64) 0) (Err Empty) (Ok bits)) marks h in
+    never (sym (cond-true _ (Err Empty) (Ok bits) (and-from _ _ m (eq-eqb (bits % 2 ^ 64) 0 e))) ∙ a .2)
+
 -- no mark is strange
-all-known : (bits marks k : ℕ) → marks-of bits ≡ Ok marks → 2 ≤ k → k ≤ 128 → marked bits k ≡ true → known table k ≡ true
+pub all-known : (bits marks k : ℕ) → marks-of bits ≡ Ok marks → 2 ≤ k → k ≤ 128 → marked bits k ≡ true → known table k ≡ true
 all-known bits marks k h l r m =
     let a = after-is-ok (unless (first (strange bits) 2 127) (λ j. Unknown j (marked-at j)) bits) (λ _. cond (marked bits 1 && eqb (bits % 2 ^ 64) 0) (Err Empty) (Ok bits)) marks h in
     let none = unless-ok (first (strange bits) 2 127) (λ j. Unknown j (marked-at j)) bits (a .0) (a .1) .0 in

@@ -2,6 +2,7 @@ pub mod Announced
 pub mod Bitmap
 pub mod Composes
 pub mod Contents
+pub mod Laws
 pub mod Messages
 pub mod Moments
 pub mod Numbers

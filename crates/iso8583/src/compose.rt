@@ -1,14 +1,9 @@
 // A whole message from its elements.
 ghost use mathlib.Core.Path.{_≡_};
-ghost use mathlib.Core.List.{List, map};
-ghost use Prim.Native.Nat.{ℕ, _≤_};
-ghost use lib.ListN.{length, take};
-ghost use Rattle.std.specs.Vec.{made};
-ghost use Rattle.std.specs.declared.result.Result.the-variants.{Ok};
 ghost use Rattle.iso8583.specs.Announced.{Announced};
 ghost use Rattle.iso8583.specs.Composes.{Steps, Puts, numbers, items};
-ghost use Rattle.iso8583.specs.Contents.{content, content-of, composed};
-ghost use Rattle.iso8583.specs.Writing.{laid};
+ghost use Rattle.iso8583.specs.Contents.{composed};
+ghost use Rattle.iso8583.specs.Laws.{Read-again, Yielded-again};
 use crate::fault::MessageFault;
 use crate::marks::Marks;
 use crate::message::Element;
@@ -37,6 +32,8 @@ fn put_all(mut writer: Writer, out: &mut [u8], elements: &[Element]) -> Result<u
 // Writes the message of a type with these elements at the front of a buffer, and answers its length.
 pub fn compose(out: &mut [u8], kind: u16, elements: &[Element]) -> Result<usize, MessageFault>
     ensures steps { λ r. ⌜ Steps (composed (now (out .entry)) kind (items (now (elements .entry)))) r (now (out .exit)) ⌝ }
+    ensures read_again { λ r. ⌜ Read-again kind (items (now (elements .entry))) r (now (out .exit)) ⌝ }
+    ensures yielded_again { λ r. ⌜ Yielded-again (now (out .entry)) kind (items (now (elements .entry))) r (now (out .exit)) ⌝ }
 {
     let marks = mark_all(elements);
     let writer = Writer::begin(out, kind, &marks)?;
