@@ -44,7 +44,7 @@ bits-at p zero k l h = absurd (omega arith)
 bits-at p (suc n) k l h =
     ⊎-elim
     (λ e. let z : suc n - k ≡ 0 = omega arith in
-      ap (λ m. eqb (bits-from p (suc n) / 2 ^ m % 2) 1) z ∙ ap (λ m. eqb (m % 2) 1) (div-one (bits-from p (suc n))) ∙ last-bit (bits-from p n) (p (suc n)) ∙ ap p (sym e))
+    ap (λ m. eqb (bits-from p (suc n) / 2 ^ m % 2) 1) z ∙ ap (λ m. eqb (m % 2) 1) (div-one (bits-from p (suc n))) ∙ last-bit (bits-from p n) (p (suc n)) ∙ ap p (sym e))
     (λ e. half-bit n (bits-from p (suc n)) k (omega arith) ∙ ap (λ v. at-bit n v k) (other-bits (bits-from p n) (p (suc n))) ∙ bits-at p n k l (omega arith))
     (cases-eq k (suc n))
 
@@ -86,4 +86,4 @@ sound-marks bits s =
     let none : first (strange bits) 2 127 ≡ None = first-fails (strange bits) 2 127 (λ j l h. ⊎-elim (λ m. and-right _ _ (ap not (s .all-known j l (omega arith) m))) (λ m. and-left _ _ m) (cases-bool (marked bits j))) in
     let fine : (marked bits 1 && eqb (bits % 2 ^ 64) 0) ≡ false = ⊎-elim (λ m. and-right _ _ (ne-eqb _ 0 (s .second m))) (λ m. and-left _ _ m) (cases-bool (marked bits 1)) in
     ap (λ o. after (unless o (λ k. Unknown k (marked-at k)) bits) (λ _. cond (marked bits 1 && eqb (bits % 2 ^ 64) 0) (Err Empty) (Ok bits))) none
-      ∙ cond-false _ _ _ fine
+    ∙ cond-false _ _ _ fine

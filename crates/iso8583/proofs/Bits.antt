@@ -102,8 +102,8 @@ marked-bit e k el eh kl kh =
     ⊎-elim
     (λ same. ap (λ n. eqb (n % 2) 1) (ap (λ n. 2 ^ (128 - n) / 2 ^ (128 - k)) (sym same) ∙ own (128 - k)) ∙ sym (eq-eqb e k (sym same)))
     (⊎-elim
-      (λ less. ap (λ n. eqb (n % 2) 1) (below-all (128 - e) (128 - k) (omega arith)) ∙ sym (ne-eqb e k (λ s. omega arith)))
-      (λ more. above (128 - e) (128 - k) (omega arith) ∙ sym (ne-eqb e k (λ s. omega arith))))
+    (λ less. ap (λ n. eqb (n % 2) 1) (below-all (128 - e) (128 - k) (omega arith)) ∙ sym (ne-eqb e k (λ s. omega arith)))
+    (λ more. above (128 - e) (128 - k) (omega arith) ∙ sym (ne-eqb e k (λ s. omega arith))))
     (cases-order k e)
 
 -- the highest bit of a number is its lowest element

@@ -115,9 +115,9 @@ ran (row ∷ rows) (i ∷ is) out used n l h =
 putting-filled : (out : List ℕ) (used : ℕ) (row : Row) (rest : List Row) (i : Item) → Matches row i → used + length (field (row .length) (i .chars)) ≤ length out → next-is out used (row ∷ rest) (i .number) (i .chars) ≡ Ok (grown out used (field (row .length) (i .chars)) rest)
 putting-filled out used row rest i m h =
     cond-true _ _ _ (eq-eqb (row .element) (i .number) (sym (m .number)))
-      ∙ ap (λ r. after (lifted r) (λ _. placing out used row rest (i .chars)))
-        (cond-true _ _ _ (m .admitted) ∙ ap (λ o. unless o (λ j. Character (row .element) 0) tt) (m .fitting))
-      ∙ cond-true _ _ _ (le-leb _ (length out) h)
+    ∙ ap (λ r. after (lifted r) (λ _. placing out used row rest (i .chars)))
+    (cond-true _ _ _ (m .admitted) ∙ ap (λ o. unless o (λ j. Character (row .element) 0) tt) (m .fitting))
+    ∙ cond-true _ _ _ (le-leb _ (length out) h)
 
 pub runs : (rows : List Row) (is : List Item) (out : List ℕ) (used : ℕ) → Filled rows is → used + length (text rows is) ≤ length out → all-put (record { out = out; used = used; rest = rows }) is ≡ record { answer = Ok (used + length (text rows is)); out = laid out used (text rows is) }
 runs [] [] out used f h = let e : used ≡ used + 0 = omega arith in λ j. record { answer = Ok (e j); out = laid-nothing out used j }
@@ -129,8 +129,8 @@ runs (row ∷ rows) (i ∷ is) out used f h =
     let keeps = length-laid out used t (omega arith) in
     let long : used + length t + length (text rows is) ≡ used + length (t ++ text rows is) = omega arith in
     ap (λ r. on r out (λ s. all-put s is)) (putting-filled out used row rows i (f .0) (omega arith))
-      ∙ runs rows is (laid out used t) (used + length t) (f .1) (omega arith)
-      ∙ (λ j. record { answer = Ok (long j); out = laid-next out used (used + length t) t (text rows is) refl (omega arith) j })
+    ∙ runs rows is (laid out used t) (used + length t) (f .1) (omega arith)
+    ∙ (λ j. record { answer = Ok (long j); out = laid-next out used (used + length t) t (text rows is) refl (omega arith) j })
 
 -- a part in the middle
 middle : (a b c : List ℕ) (s e : ℕ) → s ≡ length a → e ≡ s + length b → between s e (a ++ (b ++ c)) ≡ b
@@ -146,7 +146,7 @@ item-chars (UpTo limit) row pre chars rest =
     let two = length-spelled 10 2 (length chars) in
     let longer = length-append pre d in
     ap (between (length pre + 2) (length pre + 2 + length chars)) (ap (λ l. pre ++ l) (append-assoc d chars rest) ∙ sym (append-assoc pre d (chars ++ rest)))
-      ∙ middle (pre ++ d) chars rest (length pre + 2) (length pre + 2 + length chars) (omega arith) refl
+    ∙ middle (pre ++ d) chars rest (length pre + 2) (length pre + 2 + length chars) (omega arith) refl
 
 found-end : (l : Lengths) (row : Row) (at : ℕ) (chars : List ℕ) → found-at l row at (length chars) .end ≡ at + length (field l chars)
 found-end (Fixed n) row at chars = refl
@@ -179,11 +179,11 @@ taken-marked row rows bits pre (i ∷ is) m s f on′ =
     record {
       found = e ∷ u .found;
       all =
-        ap (λ rs. elements (row ∷ rows) bits at (text rs (i ∷ is))) chose ∙ cond-true _ _ _ m
+          ap (λ rs. elements (row ∷ rows) bits at (text rs (i ∷ is))) chose ∙ cond-true _ _ _ m
           ∙ ap (λ r. after (lifted r) (λ g. before g (elements rows bits (g .end) (drop (g .end - at) (t ++ rest))))) (respelt l row at (i .chars) rest s (f .0 .admitted) (f .0 .fitting))
           ∙ (λ j. before e (elements rows bits (end j) (left j))) ∙ ap (before e) (u .all);
       same =
-        ap (λ rs. map (item-of (pre ++ text rs (i ∷ is))) (e ∷ u .found)) chose
+          ap (λ rs. map (item-of (pre ++ text rs (i ∷ is))) (e ∷ u .found)) chose
           ∙ (λ j. record { number = (found-element l row at (length (i .chars)) ∙ sym (f .0 .number)) j; chars = item-chars l row pre (i .chars) rest j } ∷ map (item-of (sym whole j)) (u .found))
           ∙ ap (λ x. i ∷ x) (u .same);
     }
@@ -196,13 +196,13 @@ takes-up (row ∷ rows) low bits pre is p f =
     ⊎-elim
     (λ m. taken-marked row rows bits pre is m (q .brief) (subst (λ rs. Filled rs is) (cond-true _ _ _ m) f) (λ pre′ is′ g. takes-up rows (row .element) bits pre′ is′ (q .others) g))
     (λ m.
-      let e : chosen (row ∷ rows) bits ≡ chosen rows bits = cond-false _ _ _ m in
-      let t = takes-up rows (row .element) bits pre is (q .others) (subst (λ rs. Filled rs is) e f) in
-      record {
-        found = t .found;
-        all = ap (λ rs. elements (row ∷ rows) bits (length pre) (text rs is)) e ∙ cond-false _ _ _ m ∙ t .all;
-        same = ap (λ rs. map (item-of (pre ++ text rs is)) (t .found)) e ∙ t .same;
-      })
+    let e : chosen (row ∷ rows) bits ≡ chosen rows bits = cond-false _ _ _ m in
+    let t = takes-up rows (row .element) bits pre is (q .others) (subst (λ rs. Filled rs is) e f) in
+    record {
+      found = t .found;
+      all = ap (λ rs. elements (row ∷ rows) bits (length pre) (text rs is)) e ∙ cond-false _ _ _ m ∙ t .all;
+      same = ap (λ rs. map (item-of (pre ++ text rs is)) (t .found)) e ∙ t .same;
+    })
     (cases-bool (marked bits (row .element)))
 
 -- what is taken up is what would be put down
@@ -229,35 +229,35 @@ puts-down [] bits pre (c ∷ cs) es h = absurd (never h)
 puts-down (row ∷ rows) bits pre cs es h =
     ⊎-elim
     (λ m.
-      let s = stepped row rows bits (length pre) cs es m h in
-      let e = s .first in
-      let t = s .spelled in
-      let f = field (row .length) (t .chars) in
-      let end : e .end ≡ length (pre ++ f) = t .ends ∙ sym (length-append pre f) in
-      let whole : (pre ++ f) ++ t .rest ≡ pre ++ cs = append-assoc pre f (t .rest) ∙ ap (λ l. pre ++ l) (sym (t .whole)) in
-      let d = puts-down rows bits (pre ++ f) (t .rest) (s .others) (ap (λ n. elements rows bits n (t .rest)) (sym end) ∙ s .on) in
-      let i : Item = item-of (pre ++ cs) e in
-      let chars : i .chars ≡ t .chars = spelt-chars (row .length) row pre cs e t in
-      let others : map (item-of ((pre ++ f) ++ t .rest)) (s .others) ≡ map (item-of (pre ++ cs)) (s .others) = ap (λ l. map (item-of l) (s .others)) whole in
-      let match : Matches row i = record {
-            number = t .element;
-            admitted = ap (λ l. admits (row .length) (length l)) chars ∙ t .admitted;
-            fitting = (λ j. wrong (fits (row .format)) (length (chars j)) 0 (chars j)) ∙ t .fitting;
-          } in
-      let chose : row ∷ chosen rows bits ≡ chosen (row ∷ rows) bits = sym (cond-true _ _ _ m) in
-      subst (λ l. Put-down (row ∷ rows) bits cs (map (item-of (pre ++ cs)) l)) (s .all)
-      (record {
-        filled = subst (λ rs. Filled rs (i ∷ map (item-of (pre ++ cs)) (s .others))) chose (match, subst (Filled (chosen rows bits)) others (d .filled));
-        same =
+    let s = stepped row rows bits (length pre) cs es m h in
+    let e = s .first in
+    let t = s .spelled in
+    let f = field (row .length) (t .chars) in
+    let end : e .end ≡ length (pre ++ f) = t .ends ∙ sym (length-append pre f) in
+    let whole : (pre ++ f) ++ t .rest ≡ pre ++ cs = append-assoc pre f (t .rest) ∙ ap (λ l. pre ++ l) (sym (t .whole)) in
+    let d = puts-down rows bits (pre ++ f) (t .rest) (s .others) (ap (λ n. elements rows bits n (t .rest)) (sym end) ∙ s .on) in
+    let i : Item = item-of (pre ++ cs) e in
+    let chars : i .chars ≡ t .chars = spelt-chars (row .length) row pre cs e t in
+    let others : map (item-of ((pre ++ f) ++ t .rest)) (s .others) ≡ map (item-of (pre ++ cs)) (s .others) = ap (λ l. map (item-of l) (s .others)) whole in
+    let match : Matches row i = record {
+      number = t .element;
+      admitted = ap (λ l. admits (row .length) (length l)) chars ∙ t .admitted;
+      fitting = (λ j. wrong (fits (row .format)) (length (chars j)) 0 (chars j)) ∙ t .fitting;
+    } in
+    let chose : row ∷ chosen rows bits ≡ chosen (row ∷ rows) bits = sym (cond-true _ _ _ m) in
+    subst (λ l. Put-down (row ∷ rows) bits cs (map (item-of (pre ++ cs)) l)) (s .all)
+    (record {
+      filled = subst (λ rs. Filled rs (i ∷ map (item-of (pre ++ cs)) (s .others))) chose (match, subst (Filled (chosen rows bits)) others (d .filled));
+      same =
           ap (λ rs. text rs (i ∷ map (item-of (pre ++ cs)) (s .others))) (sym chose)
-            ∙ (λ j. field (row .length) (chars j) ++ text (chosen rows bits) (sym others j))
-            ∙ ap (λ l. f ++ l) (d .same) ∙ sym (t .whole);
-      }))
+          ∙ (λ j. field (row .length) (chars j) ++ text (chosen rows bits) (sym others j))
+          ∙ ap (λ l. f ++ l) (d .same) ∙ sym (t .whole);
+    }))
     (λ m.
-      let d = puts-down rows bits pre cs es (sym (cond-false _ _ _ m) ∙ h) in
-      let e : chosen rows bits ≡ chosen (row ∷ rows) bits = sym (cond-false _ _ _ m) in
-      record {
-        filled = subst (λ rs. Filled rs (map (item-of (pre ++ cs)) es)) e (d .filled);
-        same = ap (λ rs. text rs (map (item-of (pre ++ cs)) es)) (sym e) ∙ d .same;
-      })
+    let d = puts-down rows bits pre cs es (sym (cond-false _ _ _ m) ∙ h) in
+    let e : chosen rows bits ≡ chosen (row ∷ rows) bits = sym (cond-false _ _ _ m) in
+    record {
+      filled = subst (λ rs. Filled rs (map (item-of (pre ++ cs)) es)) e (d .filled);
+      same = ap (λ rs. text rs (map (item-of (pre ++ cs)) es)) (sym e) ∙ d .same;
+    })
     (cases-bool (marked bits (row .element)))

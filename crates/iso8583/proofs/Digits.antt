@@ -31,8 +31,8 @@ two-read n h =
     let units = digit-decimal (n % 10) (omega arith) in
     let value : (48 + n / 10 % 10 - 48) * 10 + (48 + n % 10 - 48) ≡ n = omega arith in
     (λ i. two-digits (tens i) (units i))
-      ∙ cond-true _ _ _ (and-from _ _ (decimal-from (48 + n / 10 % 10) (omega arith) (omega arith)) (decimal-from (48 + n % 10) (omega arith) (omega arith)))
-      ∙ ap (λ m. Some m) value
+    ∙ cond-true _ _ _ (and-from _ _ (decimal-from (48 + n / 10 % 10) (omega arith) (omega arith)) (decimal-from (48 + n % 10) (omega arith) (omega arith)))
+    ∙ ap (λ m. Some m) value
 
 -- and the length that two digits write is written by them
 pub two-written : (a b n : ℕ) → two-digits a b ≡ Some n → spelled 10 2 n ≡ a ∷ b ∷ []
@@ -40,14 +40,14 @@ unfolding spelled
 two-written a b n e =
     ⊎-elim
     (λ t.
-      let p = and-parts _ _ t in
-      let x = decimal-range a (p .0) in
-      let y = decimal-range b (p .1) in
-      let s : Some ((a - 48) * 10 + (b - 48)) ≡ Some n = sym (cond-true _ _ _ t) ∙ e in
-      let v : (a - 48) * 10 + (b - 48) ≡ n = cc in
-      let tens : 48 + n / 10 % 10 ≡ a = omega (arith, x .0, x .1, y .0, y .1) in
-      let units : 48 + n % 10 ≡ b = omega (arith, x .0, x .1, y .0, y .1) in
-      λ i. (digit-decimal (n / 10 % 10) (omega arith) ∙ tens) i ∷ (digit-decimal (n % 10) (omega arith) ∙ units) i ∷ [])
+    let p = and-parts _ _ t in
+    let x = decimal-range a (p .0) in
+    let y = decimal-range b (p .1) in
+    let s : Some ((a - 48) * 10 + (b - 48)) ≡ Some n = sym (cond-true _ _ _ t) ∙ e in
+    let v : (a - 48) * 10 + (b - 48) ≡ n = cc in
+    let tens : 48 + n / 10 % 10 ≡ a = omega (arith, x .0, x .1, y .0, y .1) in
+    let units : 48 + n % 10 ≡ b = omega (arith, x .0, x .1, y .0, y .1) in
+    λ i. (digit-decimal (n / 10 % 10) (omega arith) ∙ tens) i ∷ (digit-decimal (n % 10) (omega arith) ∙ units) i ∷ [])
     (λ f. absurd (let s : None ≡ Some n = sym (cond-false _ _ _ f) ∙ e in let z : _≡_ {A = ℕ} 0 1 = cc in omega arith))
     (cases-bool (decimal a && decimal b))
 
@@ -56,7 +56,7 @@ pub spelled-more : (base m v d : ℕ) (all text : List ℕ) → m < length text 
 unfolding spelled
 spelled-more base m v d all text h e s =
     s ∙ append-assoc (spelled base m (v / base)) (digit (v % base) ∷ []) (drop (suc m) text)
-      ∙ ap (λ l. spelled base m (v / base) ++ l) (ap (λ x. x ∷ drop (suc m) text) (sym e) ∙ ap (λ n. d ∷ drop n text) (sym (add-one m)) ∙ sym (drop-set text m d h))
+    ∙ ap (λ l. spelled base m (v / base) ++ l) (ap (λ x. x ∷ drop (suc m) text) (sym e) ∙ ap (λ n. d ∷ drop n text) (sym (add-one m)) ∙ sym (drop-set text m d h))
 
 pub length-spelled : (base n v : ℕ) → length (spelled base n v) ≡ n
 unfolding spelled

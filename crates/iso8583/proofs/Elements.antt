@@ -12,7 +12,7 @@ use Rattle.std.specs.declared.result.Result.the-variants.{Ok, Err}
 use Rattle.std.proofs.shelf.Lists.{take-append-drop, length-take-le, append-assoc, length-append}
 use Rattle.std.proofs.shelf.Tests.{leb-true, le-leb, eq-eqb, eqb-true, and-parts, cond-true}
 use Rattle.iso8583.specs.declared.fault.ElementFault.{ElementFault}
-use Rattle.iso8583.specs.declared.fault.ElementFault.the-variants.{Ends, Character} 
+use Rattle.iso8583.specs.declared.fault.ElementFault.the-variants.{Ends, Character}
 use Rattle.iso8583.specs.declared.found.Found.{Found}
 use Rattle.iso8583.specs.declared.table.Length.{Length}
 use Rattle.iso8583.specs.declared.table.Length.the-variants.{Fixed, UpTo}
@@ -97,7 +97,7 @@ found-at (UpTo limit) row at n = record { element = row .element; start = at + 2
 taken : (row : Row) (at start : ℕ) (chars rest : List ℕ) → wrong (fits (row .format)) (length chars) 0 chars ≡ None → characters row at start (length chars) (chars ++ rest) ≡ Ok (record { element = row .element; start = start; end = start + length chars })
 taken row at start chars rest w =
     cond-true _ _ _ (le-leb (length chars) (length (chars ++ rest)) (omega (arith, length-append chars rest)))
-      ∙ ap (λ o. unless o (λ i. Character (row .element) i) (record { element = row .element; start = start; end = start + length chars })) (wrong-append (fits (row .format)) (length chars) 0 start chars rest (omega arith) w)
+    ∙ ap (λ o. unless o (λ i. Character (row .element) i) (record { element = row .element; start = start; end = start + length chars })) (wrong-append (fits (row .format)) (length chars) 0 start chars rest (omega arith) w)
 
 pub respelt : (l : Length) (row : Row) (at : ℕ) (chars rest : List ℕ) → short l ≡ true → admits l (length chars) ≡ true → wrong (fits (row .format)) (length chars) 0 chars ≡ None → sized l row at (field l chars ++ rest) ≡ Ok (found-at l row at (length chars))
 unfolding spelled
@@ -108,7 +108,7 @@ respelt (UpTo limit) row at chars rest s a w =
     let inside = and-parts (leb 1 (length chars)) (leb (length chars) limit) a in
     let n = length chars in
     ap (λ o. measured o limit row at (chars ++ rest)) (two-read n (omega (arith, leb-true n limit (inside .1), leb-true limit 99 s)))
-      ∙ cond-true _ _ _ a ∙ taken row at (at + 2) chars rest w
+    ∙ cond-true _ _ _ a ∙ taken row at (at + 2) chars rest w
 
 -- an element's length digits and characters
 pub lead-field : (l : Length) (chars : List ℕ) → length (field l chars) ≡ lead l + length chars

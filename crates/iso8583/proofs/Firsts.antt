@@ -41,17 +41,17 @@ module _ (test : ℕ → Bool) where
   first-some i (suc n) k h =
       ⊎-elim
       (λ t.
-        let s : Some i ≡ Some k = sym (cond-true _ _ _ t) ∙ h in
-        let e : i ≡ k = cc in
-        record { from = omega arith; to = omega arith; here = ap test (sym e) ∙ t; none-before = λ j a b. absurd (omega arith) })
+      let s : Some i ≡ Some k = sym (cond-true _ _ _ t) ∙ h in
+      let e : i ≡ k = cc in
+      record { from = omega arith; to = omega arith; here = ap test (sym e) ∙ t; none-before = λ j a b. absurd (omega arith) })
       (λ f.
-        let r = first-some (i + 1) n k (sym (cond-false _ _ _ f) ∙ h) in
-        record {
-          from = omega (arith, r .from);
-          to = omega (arith, r .to);
-          here = r .here;
-          none-before = λ j a b. ⊎-elim (λ e. ap test (sym e) ∙ f) (λ n′. r .none-before j (omega arith) b) (cases-eq i j);
-        })
+      let r = first-some (i + 1) n k (sym (cond-false _ _ _ f) ∙ h) in
+      record {
+        from = omega (arith, r .from);
+        to = omega (arith, r .to);
+        here = r .here;
+        none-before = λ j a b. ⊎-elim (λ e. ap test (sym e) ∙ f) (λ n′. r .none-before j (omega arith) b) (cases-eq i j);
+      })
       (cases-bool (test i))
 
 pub first-same : (p q : ℕ → Bool) (i n : ℕ) → ((k : ℕ) → p k ≡ q k) → first p i n ≡ first q i n

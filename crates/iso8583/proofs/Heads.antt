@@ -33,7 +33,7 @@ module _ {base : ℕ} {good : ℕ → Bool} (b : Base base good) (n : ℕ) where
   pub numeral-read : {F : Type 0} (fault : ℕ → F) (i v : ℕ) (rest : List ℕ) → v < base ^ n → unless (wrong good n i (spelled base n v ++ rest)) fault (value base (take n (spelled base n v ++ rest))) ≡ Ok v
   numeral-read fault i v rest h =
       (λ j. unless (spelled-right b n v i rest j) fault (value base (take-at (spelled base n v) rest n (length-spelled base n v) j)))
-        ∙ ap (λ x. Ok x) (value-spelled b n v h)
+      ∙ ap (λ x. Ok x) (value-spelled b n v h)
 
   digits-from : (i : ℕ) (m : ℕ) (cs : List ℕ) → wrong good m i cs ≡ None → Digits base (take m cs)
   digits-from i zero cs w = tt
@@ -69,7 +69,7 @@ module _ (kind bits : ℕ) (rest : List ℕ) (h : kind ≤ 9999) (s : Sound bits
   unfolding head
   apart =
       append-assoc (spelled 10 4 kind) (spelled 16 16 (bits / 2 ^ 64) ++ low-text bits) rest
-        ∙ ap (λ l. spelled 10 4 kind ++ l) (append-assoc (spelled 16 16 (bits / 2 ^ 64)) (low-text bits) rest)
+      ∙ ap (λ l. spelled 10 4 kind ++ l) (append-assoc (spelled 16 16 (bits / 2 ^ 64)) (low-text bits) rest)
 
   pub kind-read : kind-of whole ≡ Ok kind
   kind-read = ap kind-of apart ∙ numeral-read ten 4 (λ i. Kind i) 0 kind _ (omega arith)
@@ -86,7 +86,7 @@ module _ (kind bits : ℕ) (rest : List ℕ) (h : kind ≤ 9999) (s : Sound bits
   low-read : marked bits 1 ≡ true → half 20 (drop 20 whole) ≡ Ok (bits % 2 ^ 64)
   low-read m =
       ap (half 20) (after-high ∙ ap (λ l. l ++ rest) (cond-true (marked bits 1) (spelled 16 16 (bits % 2 ^ 64)) [] m))
-        ∙ numeral-read sixteen 16 (λ i. Bitmap i) 20 (bits % 2 ^ 64) rest (mod-below bits (2 ^ 64) (pow-pos 64))
+      ∙ numeral-read sixteen 16 (λ i. Bitmap i) 20 (bits % 2 ^ 64) rest (mod-below bits (2 ^ 64) (pow-pos 64))
 
   second-read : with-second (bits / 2 ^ 64) whole ≡ Ok bits
   second-read =
@@ -121,7 +121,7 @@ single-half bs kind bits high k h e m front =
       small = omega arith;
       single = λ _. is-low;
       whole =
-        append-assoc (spelled 10 4 kind) (spelled 16 16 (bits / 2 ^ 64) ++ low-text bits) (drop (body bits) bs)
+          append-assoc (spelled 10 4 kind) (spelled 16 16 (bits / 2 ^ 64) ++ low-text bits) (drop (body bits) bs)
           ∙ (λ j. spelled 10 4 kind ++ ((spelled 16 16 (is-high j) ++ cond-false (marked bits 1) (spelled 16 16 (bits % 2 ^ 64)) [] off j) ++ drop (short j) bs))
           ∙ ap (λ l. spelled 10 4 kind ++ (l ++ drop 20 bs)) (append-nil (spelled 16 16 high)) ∙ front;
     }
@@ -139,7 +139,7 @@ double bs kind bits high low k h l e m front back =
       small = omega arith;
       single = λ off. absurd (both-ways _ off on);
       whole =
-        append-assoc (spelled 10 4 kind) (spelled 16 16 (bits / 2 ^ 64) ++ low-text bits) (drop (body bits) bs)
+          append-assoc (spelled 10 4 kind) (spelled 16 16 (bits / 2 ^ 64) ++ low-text bits) (drop (body bits) bs)
           ∙ (λ j. spelled 10 4 kind ++ ((spelled 16 16 (is-high j) ++ (cond-true (marked bits 1) (spelled 16 16 (bits % 2 ^ 64)) [] on ∙ ap (spelled 16 16) is-low) j) ++ drop (long j) bs))
           ∙ ap (λ x. spelled 10 4 kind ++ x) (append-assoc (spelled 16 16 high) (spelled 16 16 low) (drop 36 bs))
           ∙ ap (λ x. spelled 10 4 kind ++ (spelled 16 16 high ++ x)) (ap (λ x. spelled 16 16 low ++ x) (sym (drop-drop 16 20 bs)) ∙ back)
@@ -156,9 +156,9 @@ headed bs kind bits k b =
     let front : spelled 10 4 kind ++ (spelled 16 16 high ++ drop 20 bs) ≡ bs = ap (λ l. spelled 10 4 kind ++ (spelled 16 16 high ++ l)) (sym over) ∙ ap (λ l. spelled 10 4 kind ++ l) (u .whole) ∙ t .whole in
     ⊎-elim
     (λ m.
-      let c = after-is-ok (half 20 (drop 20 bs)) (λ low. Ok (joined high low)) bits (sym (cond-true _ _ _ m) ∙ a .2) in
-      let low = c .0 in
-      let v = numeral-written sixteen 16 (λ i. Bitmap i) 20 low (drop 20 bs) (c .1) in
-      double bs kind bits high low (t .small) (u .small) (v .small) (same-ok (c .2)) m (front) (v .whole))
+    let c = after-is-ok (half 20 (drop 20 bs)) (λ low. Ok (joined high low)) bits (sym (cond-true _ _ _ m) ∙ a .2) in
+    let low = c .0 in
+    let v = numeral-written sixteen 16 (λ i. Bitmap i) 20 low (drop 20 bs) (c .1) in
+    double bs kind bits high low (t .small) (u .small) (v .small) (same-ok (c .2)) m (front) (v .whole))
     (λ m. single-half bs kind bits high (t .small) (u .small) (same-ok (sym (cond-false _ _ _ m) ∙ a .2)) m front)
     (cases-bool (marked (joined high 0) 1))

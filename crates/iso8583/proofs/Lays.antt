@@ -32,8 +32,8 @@ unfolding head
 length-head kind bits =
     let low = cond (marked bits 1) (spelled 16 16 (bits % 2 ^ 64)) [] in
     length-append (spelled 10 4 kind) (spelled 16 16 (bits / 2 ^ 64) ++ low)
-      ∙ ap (λ n. length (spelled 10 4 kind) + n) (length-append (spelled 16 16 (bits / 2 ^ 64)) low)
-      ∙ tail (marked bits 1) (length (spelled 10 4 kind)) (length (spelled 16 16 (bits / 2 ^ 64))) (spelled 16 16 (bits % 2 ^ 64)) (length-spelled 10 4 kind) (length-spelled 16 16 (bits / 2 ^ 64)) (length-spelled 16 16 (bits % 2 ^ 64))
+    ∙ ap (λ n. length (spelled 10 4 kind) + n) (length-append (spelled 16 16 (bits / 2 ^ 64)) low)
+    ∙ tail (marked bits 1) (length (spelled 10 4 kind)) (length (spelled 16 16 (bits / 2 ^ 64))) (spelled 16 16 (bits % 2 ^ 64)) (length-spelled 10 4 kind) (length-spelled 16 16 (bits / 2 ^ 64)) (length-spelled 16 16 (bits % 2 ^ 64))
 
 -- the type and one bitmap, or two
 module _ (out : List ℕ) (kind bits : ℕ) (room : body bits ≤ length out) where
@@ -48,8 +48,8 @@ module _ (out : List ℕ) (kind bits : ℕ) (room : body bits ≤ length out) wh
   head-single m =
       let short : body bits ≡ 20 = cond-false (marked bits 1) 36 20 m in
       first-two (omega arith)
-        ∙ ap (λ l. laid out 0 (spelled 10 4 kind ++ l)) (sym (append-nil (spelled 16 16 (bits / 2 ^ 64))))
-        ∙ ap (λ l. laid out 0 (spelled 10 4 kind ++ (spelled 16 16 (bits / 2 ^ 64) ++ l))) (sym (cond-false (marked bits 1) (spelled 16 16 (bits % 2 ^ 64)) [] m))
+      ∙ ap (λ l. laid out 0 (spelled 10 4 kind ++ l)) (sym (append-nil (spelled 16 16 (bits / 2 ^ 64))))
+      ∙ ap (λ l. laid out 0 (spelled 10 4 kind ++ (spelled 16 16 (bits / 2 ^ 64) ++ l))) (sym (cond-false (marked bits 1) (spelled 16 16 (bits % 2 ^ 64)) [] m))
 
   pub head-double : marked bits 1 ≡ true → laid first-laid 20 (spelled 16 16 (bits % 2 ^ 64)) ≡ laid out 0 (head kind bits)
   unfolding head
@@ -58,6 +58,6 @@ module _ (out : List ℕ) (kind bits : ℕ) (room : body bits ≤ length out) wh
       let k = length-spelled 10 4 kind in
       let h = length-spelled 16 16 (bits / 2 ^ 64) in
       ap (λ o. laid o 20 (spelled 16 16 (bits % 2 ^ 64))) (first-two (omega arith))
-        ∙ laid-next out 0 20 (spelled 10 4 kind ++ spelled 16 16 (bits / 2 ^ 64)) (spelled 16 16 (bits % 2 ^ 64)) (omega (arith, length-append (spelled 10 4 kind) (spelled 16 16 (bits / 2 ^ 64)))) (omega (arith, length-spelled 16 16 (bits % 2 ^ 64)))
-        ∙ ap (laid out 0) (append-assoc (spelled 10 4 kind) (spelled 16 16 (bits / 2 ^ 64)) (spelled 16 16 (bits % 2 ^ 64)))
-        ∙ ap (λ l. laid out 0 (spelled 10 4 kind ++ (spelled 16 16 (bits / 2 ^ 64) ++ l))) (sym (cond-true (marked bits 1) (spelled 16 16 (bits % 2 ^ 64)) [] m))
+      ∙ laid-next out 0 20 (spelled 10 4 kind ++ spelled 16 16 (bits / 2 ^ 64)) (spelled 16 16 (bits % 2 ^ 64)) (omega (arith, length-append (spelled 10 4 kind) (spelled 16 16 (bits / 2 ^ 64)))) (omega (arith, length-spelled 16 16 (bits % 2 ^ 64)))
+      ∙ ap (laid out 0) (append-assoc (spelled 10 4 kind) (spelled 16 16 (bits / 2 ^ 64)) (spelled 16 16 (bits % 2 ^ 64)))
+      ∙ ap (λ l. laid out 0 (spelled 10 4 kind ++ (spelled 16 16 (bits / 2 ^ 64) ++ l))) (sym (cond-true (marked bits 1) (spelled 16 16 (bits % 2 ^ 64)) [] m))

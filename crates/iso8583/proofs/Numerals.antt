@@ -38,7 +38,7 @@ module _ (good : ℕ → Bool) (base n at : ℕ) (cs : List ℕ) where
   pub all-read : {F : Type 0} (fault : ℕ → F) (i v : ℕ) → i ≡ n → Sofar good base n at cs i v → Ok v ≡ unless (wrong good n at cs) fault (value base (take n cs))
   all-read fault i v e s =
       ap (λ x. Ok x) (s .valued ∙ ap (λ m. value base (take m cs)) e)
-        ∙ sym (ap (λ o. unless o fault (value base (take n cs))) (s .looked ∙ wrong-all good n at cs i (omega arith)))
+      ∙ sym (ap (λ o. unless o fault (value base (take n cs))) (s .looked ∙ wrong-all good n at cs i (omega arith)))
 
   pub stopped : {F A : Type 0} (fault : ℕ → F) (a : A) (i v : ℕ) → i < n → Sofar good base n at cs i v → good (getD cs i 0) ≡ false → Err (fault (at + i)) ≡ unless (wrong good n at cs) fault a
   stopped fault a i v h s g =

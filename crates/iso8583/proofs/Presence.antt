@@ -60,21 +60,21 @@ found-marked [] bits at (c ∷ cs) es k h = absurd (never h)
 found-marked (row ∷ rows) bits at cs es k h =
     ⊎-elim
     (λ m.
-      let s = stepped row rows bits at cs es m h in
-      let ih = found-marked rows bits (s .first .end) (s .spelled .rest) (s .others) k (s .on) in
-      let e = s .spelled .element in
-      ap (λ l. isSome (found-of l k)) (sym (s .all))
-        ∙ ap (λ n. isSome (cond (eqb n k) (Some (s .first)) (found-of (s .others) k))) e
-        ∙ ⊎-elim
-          (λ t. ap isSome (cond-true _ (Some (s .first)) (found-of (s .others) k) t) ∙ sym (and-from _ _ (or-left _ (known rows k) t) (ap (marked bits) (sym (eqb-true (row .element) k t)) ∙ m)))
-          (λ f. ap isSome (cond-false _ (Some (s .first)) (found-of (s .others) k) f) ∙ ih ∙ ap (λ b. (b || known rows k) && marked bits k) (sym f))
-          (cases-bool (eqb (row .element) k)))
+    let s = stepped row rows bits at cs es m h in
+    let ih = found-marked rows bits (s .first .end) (s .spelled .rest) (s .others) k (s .on) in
+    let e = s .spelled .element in
+    ap (λ l. isSome (found-of l k)) (sym (s .all))
+    ∙ ap (λ n. isSome (cond (eqb n k) (Some (s .first)) (found-of (s .others) k))) e
+    ∙ ⊎-elim
+    (λ t. ap isSome (cond-true _ (Some (s .first)) (found-of (s .others) k) t) ∙ sym (and-from _ _ (or-left _ (known rows k) t) (ap (marked bits) (sym (eqb-true (row .element) k t)) ∙ m)))
+    (λ f. ap isSome (cond-false _ (Some (s .first)) (found-of (s .others) k) f) ∙ ih ∙ ap (λ b. (b || known rows k) && marked bits k) (sym f))
+    (cases-bool (eqb (row .element) k)))
     (λ m.
-      let ih = found-marked rows bits at cs es k (sym (cond-false _ _ _ m) ∙ h) in
-      ih ∙ ⊎-elim
-        (λ t. let off = ap (marked bits) (sym (eqb-true (row .element) k t)) ∙ m in and-right (known rows k) (marked bits k) off ∙ sym (and-right (eqb (row .element) k || known rows k) (marked bits k) off))
-        (λ f. ap (λ b. (b || known rows k) && marked bits k) (sym f))
-        (cases-bool (eqb (row .element) k)))
+    let ih = found-marked rows bits at cs es k (sym (cond-false _ _ _ m) ∙ h) in
+    ih ∙ ⊎-elim
+    (λ t. let off = ap (marked bits) (sym (eqb-true (row .element) k t)) ∙ m in and-right (known rows k) (marked bits k) off ∙ sym (and-right (eqb (row .element) k || known rows k) (marked bits k) off))
+    (λ f. ap (λ b. (b || known rows k) && marked bits k) (sym f))
+    (cases-bool (eqb (row .element) k)))
     (cases-bool (marked bits (row .element)))
 
 -- a second bitmap that is announced marks something
@@ -96,17 +96,17 @@ module _ (bs : List ℕ) (kind bits : ℕ) (es : List Found) (k : ℕ) (w : Whol
   unmarked f =
       ⊎-elim
       (λ m. ⊎-elim
-        (λ i. let r = and-parts _ _ i in absurd (both-ways _ f (all-known bits (w .marks) k (w .known-only) (leb-true 2 k (r .0)) (leb-true k 128 (r .1)) m)))
-        (λ o. and-left _ _ o)
-        (cases-bool (within 2 128 k)))
+      (λ i. let r = and-parts _ _ i in absurd (both-ways _ f (all-known bits (w .marks) k (w .known-only) (leb-true 2 k (r .0)) (leb-true k 128 (r .1)) m)))
+      (λ o. and-left _ _ o)
+      (cases-bool (within 2 128 k)))
       (λ m. and-right _ _ m)
       (cases-bool (marked bits k))
 
   pub found-present : isSome (found-of es k) ≡ (within 2 128 k && marked bits k)
   found-present =
       found-marked table bits (body bits) (drop (body bits) bs) es k (w .found)
-        ∙ ⊎-elim
-          (λ t. let r = known-range table 1 k proper-table t in
-            (λ i. t i && marked bits k) ∙ sym (ap (λ b. b && marked bits k) (and-from _ _ (le-leb 2 k (r .0)) (le-leb k 128 (r .1)))))
-          (λ f. (λ i. f i && marked bits k) ∙ sym (unmarked f))
-          (cases-bool (known table k))
+      ∙ ⊎-elim
+      (λ t. let r = known-range table 1 k proper-table t in
+      (λ i. t i && marked bits k) ∙ sym (ap (λ b. b && marked bits k) (and-from _ _ (le-leb 2 k (r .0)) (le-leb k 128 (r .1)))))
+      (λ f. (λ i. f i && marked bits k) ∙ sym (unmarked f))
+      (cases-bool (known table k))

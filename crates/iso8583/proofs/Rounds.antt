@@ -63,13 +63,13 @@ module _ (ns : List ℕ) (bits : ℕ) (small : All (λ n. n < 256) ns) (a : anno
     small = subst (λ b. b < 2 ^ 128) is (bits-below (marks ns) 128);
     all-known = λ k l h m. listed-known k (sym (own k l h) ∙ m);
     second = λ m low.
-      let e = marks-one ns (sym (at 1 (omega arith) (omega arith)) ∙ m) in
-      let r = known-range table 1 (e .0) proper-table (listed-known (e .0) (e .2)) in
-      both-ways _ (none-low bits (e .0) low (omega (arith, e .1)) (r .1)) (own (e .0) (omega (arith, r .0)) (r .1) ∙ e .2);
+        let e = marks-one ns (sym (at 1 (omega arith) (omega arith)) ∙ m) in
+        let r = known-range table 1 (e .0) proper-table (listed-known (e .0) (e .2)) in
+        both-ways _ (none-low bits (e .0) low (omega (arith, e .1)) (r .1)) (own (e .0) (omega (arith, r .0)) (r .1) ∙ e .2);
     single = λ m. ⊎-elim (λ z. z)
-      (λ n. let k = some-low bits n in
+        (λ n. let k = some-low bits n in
         absurd (both-ways _ m (at 1 (omega arith) (omega arith) ∙ one-marked ns (k .0) (omega (arith, k .1)) (sym (own (k .0) (omega (arith, k .1)) (k .2)) ∙ k .3))))
-      (cases-eq (bits % 2 ^ 64) 0);
+        (cases-eq (bits % 2 ^ 64) 0);
   }
 
 -- a start that was made
@@ -145,31 +145,31 @@ module _ (bs : List ℕ) (kind bits : ℕ) (es : List Found) (w : Whole bs kind 
 
   no-stranger : first (outside nums) 0 256 ≡ None
   no-stranger = first-fails (outside nums) 0 256 (λ j l h.
-    ⊎-elim (λ t. and-right _ _ (ap not t)) (λ f. and-left _ _ (in-bits j ∙ and-left _ _ f)) (cases-bool (known table j)))
+      ⊎-elim (λ t. and-right _ _ (ap not t)) (λ f. and-left _ _ (in-bits j ∙ and-left _ _ f)) (cases-bool (known table j)))
 
   own-mark : (k : ℕ) → 2 ≤ k → k ≤ 128 → marked bits k ≡ marks nums k
   own-mark k l h =
       sym (marks-else nums k (λ e. omega arith) ∙ in-bits k
-        ∙ ⊎-elim (λ m. ap (λ b. b && marked bits k) (read-sound .all-known k l h m)) (λ m. and-right _ _ m ∙ sym m) (cases-bool (marked bits k)))
+      ∙ ⊎-elim (λ m. ap (λ b. b && marked bits k) (read-sound .all-known k l h m)) (λ m. and-right _ _ m ∙ sym m) (cases-bool (marked bits k)))
 
   one-mark : marked bits 1 ≡ marks nums 1
   one-mark =
       ⊎-elim
       (λ m. let k = some-low bits (read-sound .second m) in
-        m ∙ sym (one-marked nums (k .0) (omega (arith, k .1)) (in-bits (k .0) ∙ and-from _ _ (read-sound .all-known (k .0) (omega (arith, k .1)) (k .2) (k .3)) (k .3))))
+      m ∙ sym (one-marked nums (k .0) (omega (arith, k .1)) (in-bits (k .0) ∙ and-from _ _ (read-sound .all-known (k .0) (omega (arith, k .1)) (k .2) (k .3)) (k .3))))
       (λ m. m ∙ sym (⊎-elim
-        (λ t. let e = marks-one nums t in
-          let p = and-parts _ _ (sym (in-bits (e .0)) ∙ e .2) in
-          let r = known-range table 1 (e .0) proper-table (p .0) in
-          absurd (both-ways _ (none-low bits (e .0) (read-sound .single m) (omega (arith, e .1)) (r .1)) (p .1)))
-        (λ f. f)
-        (cases-bool (marks nums 1))))
+      (λ t. let e = marks-one nums t in
+      let p = and-parts _ _ (sym (in-bits (e .0)) ∙ e .2) in
+      let r = known-range table 1 (e .0) proper-table (p .0) in
+      absurd (both-ways _ (none-low bits (e .0) (read-sound .single m) (omega (arith, e .1)) (r .1)) (p .1)))
+      (λ f. f)
+      (cases-bool (marks nums 1))))
       (cases-bool (marked bits 1))
 
   pub read-announced : announced nums ≡ Ok bits
   read-announced =
       ap (λ o. unless o (λ k. Unknown k 0) (bits-from (marks nums) 128)) no-stranger
-        ∙ ap (λ b. Ok b) (sym (sym (bits-back 128 bits (hd .small)) ∙ bits-same (marked bits) (marks nums) 128 (λ k l h. ⊎-elim (λ e. ap (marked bits) e ∙ one-mark ∙ ap (marks nums) (sym e)) (λ n. own-mark k (omega arith) h) (cases-eq k 1))))
+      ∙ ap (λ b. Ok b) (sym (sym (bits-back 128 bits (hd .small)) ∙ bits-same (marked bits) (marks nums) 128 (λ k l h. ⊎-elim (λ e. ap (marked bits) e ∙ one-mark ∙ ap (marks nums) (sym e)) (λ n. own-mark k (omega arith) h) (cases-eq k 1))))
 
   -- its elements are the text behind its head
   abbrev pre : List ℕ
@@ -192,8 +192,8 @@ module _ (bs : List ℕ) (kind bits : ℕ) (es : List Found) (w : Whole bs kind 
       let at : body bits ≡ 0 + length pre = omega (arith, length-head kind bits) in
       let answer : body bits + length (text rows its) ≡ length bs = omega arith in
       ap (λ r. on r out (λ s. all-put s its)) (started out kind nums (hd .four) bits (sym read-announced) (omega arith))
-        ∙ runs rows its (laid out 0 pre) (body bits) (down .filled) (omega arith)
-        ∙ (λ j. record { answer = Ok (answer j); out = (laid-next out 0 (body bits) pre (text rows its) at (omega arith) ∙ ap (λ l. laid out 0 (pre ++ l)) (down .same) ∙ ap (laid out 0) (hd .whole)) j })
+      ∙ runs rows its (laid out 0 pre) (body bits) (down .filled) (omega arith)
+      ∙ (λ j. record { answer = Ok (answer j); out = (laid-next out 0 (body bits) pre (text rows its) at (omega arith) ∙ ap (λ l. laid out 0 (pre ++ l)) (down .same) ∙ ap (laid out 0) (hd .whole)) j })
 
 pub yielded-again : (out : List ℕ) (kind : ℕ) (is : List Item) (bs : List ℕ) → content-of bs ≡ Ok (content kind is) → length bs ≤ length out → composed out kind is ≡ record { answer = Ok (length bs); out = laid out 0 bs }
 yielded-again out kind is bs h room =

@@ -50,10 +50,10 @@ outside-push es e k = ap (λ b. b && not (known table k)) (listed-push es e k)
 outside-known : (es : List ℕ) (e : ℕ) → known table e ≡ true → (k : ℕ) → outside (es ++ e ∷ []) k ≡ outside es k
 outside-known es e t k =
     outside-push es e k
-      ∙ ⊎-elim
-        (λ q. let off : not (known table k) ≡ false = ap not (ap (known table) (sym (eqb-true e k q)) ∙ t) in and-right _ _ off ∙ sym (and-right _ _ off))
-        (λ q. ap (λ b. (listed es k || b) && not (known table k)) q ∙ ap (λ b. b && not (known table k)) (or-false (listed es k)))
-        (cases-bool (eqb e k))
+    ∙ ⊎-elim
+    (λ q. let off : not (known table k) ≡ false = ap not (ap (known table) (sym (eqb-true e k q)) ∙ t) in and-right _ _ off ∙ sym (and-right _ _ off))
+    (λ q. ap (λ b. (listed es k || b) && not (known table k)) q ∙ ap (λ b. b && not (known table k)) (or-false (listed es k)))
+    (cases-bool (eqb e k))
 
 pub stranger-stays : (es : List ℕ) (e : ℕ) → known table e ≡ true → first (outside (es ++ e ∷ [])) 0 256 ≡ first (outside es) 0 256
 stranger-stays es e t = first-same (outside (es ++ e ∷ [])) (outside es) 0 256 (outside-known es e t)

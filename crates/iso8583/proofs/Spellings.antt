@@ -80,8 +80,8 @@ module _ {base : ℕ} {good : ℕ → Bool} (b : Base base good) where
   value-spelled (suc n) v h =
       let less : v / base < base ^ n = div-below v base (base ^ n) (b .some) (subst (λ m. v < m) (pow-suc base n) h) in
       value-push base (spelled base n (v / base)) (digit (v % base))
-        ∙ (λ i. value-spelled n (v / base) less i * base + b .worth (v % base) (mod-below v base (b .some)) i)
-        ∙ div-add-mod' v base
+      ∙ (λ i. value-spelled n (v / base) less i * base + b .worth (v % base) (mod-below v base (b .some)) i)
+      ∙ div-add-mod' v base
 
   spelled-front : (cs : List ℕ) (m : ℕ) → ((j : ℕ) → j < m → good (getD cs j 0) ≡ true) → m ≤ length cs → (i : ℕ) → i ≤ m → spelled base i (value base (take i cs)) ≡ take i cs
   unfolding spelled
@@ -94,9 +94,9 @@ module _ {base : ℕ} {good : ℕ → Bool} (b : Base base good) where
       let v = value base (take i cs) in
       let up : value base (take (suc i) cs) ≡ v * base + d = ap (λ n. value base (take n cs)) (sym (add-one i)) ∙ value-more base cs i near in
       ap (spelled base (suc i)) up
-        ∙ (λ j. spelled base i (div-mul-add v base d small j) ++ digit (mod-mul-add v base d small j) ∷ [])
-        ∙ (λ j. spelled-front cs m g l i (omega arith) j ++ b .back c (g i (omega arith)) j ∷ [])
-        ∙ sym (take-more cs i 0 near) ∙ ap (λ n. take n cs) (add-one i)
+      ∙ (λ j. spelled base i (div-mul-add v base d small j) ++ digit (mod-mul-add v base d small j) ∷ [])
+      ∙ (λ j. spelled-front cs m g l i (omega arith) j ++ b .back c (g i (omega arith)) j ∷ [])
+      ∙ sym (take-more cs i 0 near) ∙ ap (λ n. take n cs) (add-one i)
 
   -- digits that are read are spelled again
   pub spelled-value : (n i : ℕ) (cs : List ℕ) → wrong good n i cs ≡ None → spelled base n (value base (take n cs)) ≡ take n cs

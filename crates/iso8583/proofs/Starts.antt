@@ -39,4 +39,4 @@ module _ (out : List ℕ) (kind : ℕ) (es : List ℕ) where
           let long = length-head kind bits in
           let used : 0 + length (head kind bits) ≡ body bits = omega arith in
           by-room ∙ cond-true _ _ _ (le-leb (length (head kind bits)) (length out) (omega arith))
-            ∙ ap (λ n. Ok (record { out = laid out 0 (head kind bits); used = n; rest = chosen table bits })) used
+          ∙ ap (λ n. Ok (record { out = laid out 0 (head kind bits); used = n; rest = chosen table bits })) used

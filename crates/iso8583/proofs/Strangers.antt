@@ -32,12 +32,12 @@ module _ (bits ks : ℕ) (fits : bits < 2 ^ 128) (small : ks < 2 ^ 128) (knows :
   odd-at : (k : ℕ) → 1 ≤ k → k ≤ 128 → marked odd-ones k ≡ (marked bits k && not (eqb 1 k || known table k))
   odd-at k l h =
       marked-and bits (2 ^ 128 - 1 - ks) k
-        ∙ ap (λ b. marked bits k && b) (marked-flip ks k l h small ∙ ap not (knows k l h))
+      ∙ ap (λ b. marked bits k && b) (marked-flip ks k l h small ∙ ap not (knows k l h))
 
   odd-strange : (k : ℕ) → 2 ≤ k → k ≤ 128 → marked odd-ones k ≡ strange bits k
   odd-strange k l h =
       odd-at k (omega arith) h
-        ∙ ap (λ b. marked bits k && not (b || known table k)) (ne-eqb 1 k (λ e. omega arith))
+      ∙ ap (λ b. marked bits k && not (b || known table k)) (ne-eqb 1 k (λ e. omega arith))
 
   odd-small : odd-ones < 2 ^ 128
   odd-small = and-lt 128 bits (2 ^ 128 - 1 - ks) fits (omega arith)

@@ -80,16 +80,16 @@ tiles (row ∷ rows) low bits at cs es p a h =
     let next = above-next low row rows (q .above) a in
     ⊎-elim
     (λ m.
-      let s = stepped row rows bits at cs es m h in
-      let e = s .first in
-      let t = s .spelled in
-      let t-long = ap length (t .whole) ∙ length-append (field (row .length) (t .chars)) (t .rest) in
-      let lf = lead-field (row .length) (t .chars) in
-      let rest = tiles rows (row .element) bits (e .end) (t .rest) (s .others) (q .others) next (s .on) in
-      let led : lead-of table (e .element) ≡ lead (row .length) = ap (lead-of table) (t .element) ∙ sym (a (row .element) (q .above)) ∙ cond-true _ _ _ (eq-eqb (row .element) (row .element) refl) in
-      let end : e .end + length (t .rest) ≡ at + length cs = omega (arith, t .ends) in
-      subst (λ l. Tiled at low l (at + length cs)) (s .all)
-      (omega (arith, t .element, q .above), omega (arith, t .starts, t .ends), omega (arith, t .starts), subst (λ k. Tiled (e .end) k (s .others) (at + length cs)) (sym (t .element)) (subst (Tiled (e .end) (row .element) (s .others)) end rest)))
+    let s = stepped row rows bits at cs es m h in
+    let e = s .first in
+    let t = s .spelled in
+    let t-long = ap length (t .whole) ∙ length-append (field (row .length) (t .chars)) (t .rest) in
+    let lf = lead-field (row .length) (t .chars) in
+    let rest = tiles rows (row .element) bits (e .end) (t .rest) (s .others) (q .others) next (s .on) in
+    let led : lead-of table (e .element) ≡ lead (row .length) = ap (lead-of table) (t .element) ∙ sym (a (row .element) (q .above)) ∙ cond-true _ _ _ (eq-eqb (row .element) (row .element) refl) in
+    let end : e .end + length (t .rest) ≡ at + length cs = omega (arith, t .ends) in
+    subst (λ l. Tiled at low l (at + length cs)) (s .all)
+    (omega (arith, t .element, q .above), omega (arith, t .starts, t .ends), omega (arith, t .starts), subst (λ k. Tiled (e .end) k (s .others) (at + length cs)) (sym (t .element)) (subst (Tiled (e .end) (row .element) (s .others)) end rest)))
     (λ m. below-more at low (row .element) es (at + length cs) (q .above) (tiles rows (row .element) bits at cs es (q .others) next (sym (cond-false _ _ _ m) ∙ h)))
     (cases-bool (marked bits (row .element)))
 

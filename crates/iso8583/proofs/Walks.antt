@@ -66,9 +66,9 @@ module _ (bs : List ℕ) (bits : ℕ) where
         let long = length-drop at bs in
         let back : at + (e .end - at) ≡ e .end = omega (arith, s .ends) in
         let next : rest-of bs bits i at ≡ before e (rest-of bs bits (i + 1) (e .end)) =
-              opened h ∙ cond-true _ _ _ m
-                ∙ ap (λ r. after (lifted r) (λ f. before f (elements (drop (i + 1) table) bits (f .end) (drop (f .end - at) (drop at bs))))) ok
-                ∙ ap (λ cs. before e (elements (drop (i + 1) table) bits (e .end) cs)) (drop-drop (e .end - at) at bs ∙ ap (λ k. drop k bs) back) in
+        opened h ∙ cond-true _ _ _ m
+        ∙ ap (λ r. after (lifted r) (λ f. before f (elements (drop (i + 1) table) bits (f .end) (drop (f .end - at) (drop at bs))))) ok
+        ∙ ap (λ cs. before e (elements (drop (i + 1) table) bits (e .end) cs)) (drop-drop (e .end - at) at bs ∙ ap (λ k. drop k bs) back) in
         record {
           inside = omega (arith, s .ends, w .inside);
           few = omega (arith, w .few);
@@ -79,7 +79,7 @@ module _ (bs : List ℕ) (bits : ℕ) where
     pub walk-fails : (f : ElementFault) → i < length table → marked bits (getD table i blank .element) ≡ true → sized (getD table i blank .length) (getD table i blank) at (drop at bs) ≡ Err f → Walked bs bits (Err (Element f))
     walk-fails f h m err =
         w .so-far ∙ ap (prefixed (take count found)) (opened h ∙ cond-true _ _ _ m
-          ∙ ap (λ r. after (lifted r) (λ e. before e (elements (drop (i + 1) table) bits (e .end) (drop (e .end - at) (drop at bs))))) err)
+        ∙ ap (λ r. after (lifted r) (λ e. before e (elements (drop (i + 1) table) bits (e .end) (drop (e .end - at) (drop at bs))))) err)
 
     ended : length table ≤ i → rest-of bs bits i at ≡ elements [] bits at (drop at bs)
     ended h = ap (λ rs. elements rs bits at (drop at bs)) (drop-all i table h)

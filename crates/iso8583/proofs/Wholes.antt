@@ -37,13 +37,13 @@ bits-long bs bits h =
     let l4 = length-drop 4 bs in
     ⊎-elim
     (λ m.
-      let b = after-is-ok (half 20 (drop 20 bs)) (λ low. Ok (joined high low)) bits (sym (cond-true _ _ _ m) ∙ a .2) in
-      let second = half-long 20 (drop 20 bs) (b .0) (b .1) in
-      omega (arith, body-most bits, length-drop 20 bs))
+    let b = after-is-ok (half 20 (drop 20 bs)) (λ low. Ok (joined high low)) bits (sym (cond-true _ _ _ m) ∙ a .2) in
+    let second = half-long 20 (drop 20 bs) (b .0) (b .1) in
+    omega (arith, body-most bits, length-drop 20 bs))
     (λ m.
-      let same : joined high 0 ≡ bits = same-ok (sym (cond-false _ _ _ m) ∙ a .2) in
-      let short : body bits ≡ 20 = ap body (sym same) ∙ cond-false _ 36 20 m in
-      omega arith)
+    let same : joined high 0 ≡ bits = same-ok (sym (cond-false _ _ _ m) ∙ a .2) in
+    let short : body bits ≡ 20 = ap body (sym same) ∙ cond-false _ 36 20 m in
+    omega arith)
     (cases-bool (marked (joined high 0) 1))
 
 fine : (t : Bool) (bits b : ℕ) → cond t (Err Empty) (Ok bits) ≡ Ok b → bits ≡ b
@@ -77,7 +77,7 @@ module _ (bs : List ℕ) (kind marks bits : ℕ) (k : Ok kind ≡ kind-of bs) (b
   in-steps : reading bs ≡ by-elements bits
   in-steps =
       sym (after-ok (from-kind bs) k) ∙ sym (after-ok (from-bits bs kind) b)
-        ∙ sym (after-ok (λ _. by-elements marks) m) ∙ ap by-elements same-marks
+      ∙ sym (after-ok (λ _. by-elements marks) m) ∙ ap by-elements same-marks
 
   pub read-whole : (es : List Found) → elements table bits (body bits) (drop (body bits) bs) ≡ Ok es → reading bs ≡ Ok (parts kind bits es)
   read-whole es e = in-steps ∙ ap (λ r. after r (λ fs. Ok (parts kind bits fs))) e

@@ -78,7 +78,7 @@ abbrev pub characters : Row → ℕ → ℕ → ℕ → List ℕ → Result Foun
 characters row at start n cs =
     cond (leb n (length cs))
     (unless (wrong (fits (row .format)) n start cs) (λ i. Character (row .element) i)
-      (record { element = row .element; start = start; end = start + n }))
+    (record { element = row .element; start = start; end = start + n }))
     (Err (Ends (row .element) at))
 
 -- a length of 1 up to the limit, and then so many characters

@@ -70,7 +70,12 @@ impl ElementFault {
             ElementFault::Length { element, place } => (7, element, place),
             ElementFault::Character { element, place } => (8, element, place),
         };
-        Refusal { number, layer: Layer::Element, element, place }
+        Refusal {
+            number,
+            layer: Layer::Element,
+            element,
+            place,
+        }
     }
 }
 
@@ -88,6 +93,11 @@ impl MessageFault {
             MessageFault::Order { next } => (13, next, 0),
             MessageFault::Room { element } => (14, element, 0),
         };
-        Refusal { number, layer: Layer::Message, element, place }
+        Refusal {
+            number,
+            layer: Layer::Message,
+            element,
+            place,
+        }
     }
 }

@@ -33,7 +33,11 @@ fn bits_of(element: u8) -> u128
     requires { ⌜ 2 ≤ element ⌝ ∗ ⌜ element ≤ 128 ⌝ }
     ensures { λ r. ⌜ ((k : ℕ) → 1 ≤ k → k ≤ 128 → marked r k ≡ sets element k) ⌝ }
 {
-    if element > 64 { bit(1) | bit(element) } else { bit(element) }
+    if element > 64 {
+        bit(1) | bit(element)
+    } else {
+        bit(element)
+    }
 }
 
 // The lower of two elements.
@@ -50,7 +54,10 @@ impl Marks {
     pub(crate) fn new() -> Marks
         ensures { λ r. ⌜ Announced [] (r .bitmap) (r .stranger) ⌝ }
     {
-        Marks { bitmap: 0, stranger: None }
+        Marks {
+            bitmap: 0,
+            stranger: None,
+        }
     }
 
     // One element more.

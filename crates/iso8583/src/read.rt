@@ -106,7 +106,13 @@ pub(crate) fn first_wrong(format: Format, start: usize, chars: &[u8]) -> Option<
 }
 
 // n characters of an element, of which `rest` has what stands from `start` on. With its length the element starts at `at`.
-fn read_characters(row: &Row, at: usize, start: usize, n: usize, rest: &[u8]) -> Result<Found, ElementFault>
+fn read_characters(
+    row: &Row,
+    at: usize,
+    start: usize,
+    n: usize,
+    rest: &[u8],
+) -> Result<Found, ElementFault>
     requires { ⌜ start + length (now rest) < 2 ^ 64 ⌝ }
     ensures { λ r. ⌜ r ≡ characters (now (row .entry)) at start n (now (rest .entry)) ⌝ }
 {
@@ -117,7 +123,11 @@ fn read_characters(row: &Row, at: usize, start: usize, n: usize, rest: &[u8]) ->
     if let Some(place) = first_wrong(row.format, start, &rest[0..n]) {
         return Err(ElementFault::Character { element, place });
     }
-    Ok(Found { element, start, end: start + n })
+    Ok(Found {
+        element,
+        start,
+        end: start + n,
+    })
 }
 
 // The number that two length digits write.
@@ -151,11 +161,18 @@ fn read_element(row: &Row, at: usize, rest: &[u8]) -> Result<Found, ElementFault
 }
 
 // The elements that a bitmap marks, as far as the message has them: where they stand, and how many there are.
-pub(crate) fn read_elements(bytes: &[u8], bitmap: u128) -> Result<([Found; ROWS], usize), MessageFault>
+pub(crate) fn read_elements(
+    bytes: &[u8],
+    bitmap: u128,
+) -> Result<([Found; ROWS], usize), MessageFault>
     requires { ⌜ body bitmap ≤ length (now bytes) ⌝ }
     ensures { λ r. ⌜ Walked (now (bytes .entry)) bitmap r ⌝ }
 {
-    let mut found = [Found { element: 0, start: 0, end: 0 }; ROWS];
+    let mut found = [Found {
+        element: 0,
+        start: 0,
+        end: 0,
+    }; ROWS];
     let mut count = 0;
     let mut at = body(bitmap);
     for row in rows() {

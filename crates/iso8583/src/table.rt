@@ -27,6 +27,7 @@ pub struct Row {
 }
 
 // The table, in rising order. A new element is one line here and the same line in specs/Table.antt.
+#[rattlefmt::skip]
 const TABLE: &[Row] = &[
     Row { element: 2, format: Format::Numeric, length: Length::UpTo(19) },
     Row { element: 3, format: Format::Numeric, length: Length::Fixed(6) },

@@ -90,7 +90,11 @@ impl Writer {
             return Err(MessageFault::Room { element: 0 });
         }
         lay_head(out, kind, bitmap);
-        Ok(Writer { used, bitmap, row: 0 })
+        Ok(Writer {
+            used,
+            bitmap,
+            row: 0,
+        })
     }
 
     // Starts a message of a type with a set of elements: their order does not count, nor does how often one is named.
@@ -141,7 +145,9 @@ impl Writer {
         ensures { λ r. ⌜ r ≡ ending (now (self .entry) .used) (chosen (drop (now (self .entry) .row) table) (now (self .entry) .bitmap)) ⌝ }
     {
         match self.next() {
-            Some(i) => Err(MessageFault::Order { next: rows()[i].element }),
+            Some(i) => Err(MessageFault::Order {
+                next: rows()[i].element,
+            }),
             None => Ok(self.used),
         }
     }

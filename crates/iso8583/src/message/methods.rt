@@ -26,7 +26,11 @@ impl<'a> Message<'a> {
             bytes: SHORTEST,
             kind: 0,
             bitmap: 0,
-            found: [Found { element: 0, start: 0, end: 0 }; ROWS],
+            found: [Found {
+                element: 0,
+                start: 0,
+                end: 0,
+            }; ROWS],
             count: 0,
         }
     }
@@ -38,7 +42,13 @@ impl<'a> Message<'a> {
         let kind = read_kind(bytes)?;
         let bitmap = known_marks(read_bitmap(bytes)?)?;
         let (found, count) = read_elements(bytes, bitmap)?;
-        *self = Message { bytes, kind, bitmap, found, count };
+        *self = Message {
+            bytes,
+            kind,
+            bitmap,
+            found,
+            count,
+        };
         Ok(())
     }
 
@@ -61,9 +71,17 @@ impl<'a> Message<'a> {
         ensures there { λ r. ⌜ isSome r ≡ present (now (self .entry)) number ⌝ }
     {
         for i in 0..self.count {
-            let Found { element, start, end } = self.found[i];
+            let Found {
+                element,
+                start,
+                end,
+            } = self.found[i];
             if element == number {
-                return Some(Element { number, offset: start, chars: &self.bytes[start..end] });
+                return Some(Element {
+                    number,
+                    offset: start,
+                    chars: &self.bytes[start..end],
+                });
             }
         }
         None

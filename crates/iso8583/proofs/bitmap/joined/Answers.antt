@@ -8,5 +8,5 @@ use Rattle.iso8583.proofs.bitmap.joined.Needs as need
 pub returns : need.returns
 returns c =
     (λ i. bitOr (c .from .ensures i * 2 ^ 64 % 2 ^ 128) (c .from-2 .ensures i))
-      ∙ ap (λ h. bitOr h (c .args .low)) (shl-whole (c .args .high) 64 64 128 (omega arith) (omega arith))
-      ∙ or-shifted (c .args .high) 64 (c .args .low) (omega arith)
+    ∙ ap (λ h. bitOr h (c .args .low)) (shl-whole (c .args .high) 64 64 128 (omega arith) (omega arith))
+    ∙ or-shifted (c .args .high) 64 (c .args .low) (omega arith)

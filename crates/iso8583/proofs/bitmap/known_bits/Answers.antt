@@ -23,10 +23,10 @@ loop-row-again c k l h =
     let range = in-table i blank within in
     let bit = c .bit-bits-in-loop-row .ensures ∙ ap (λ rs. 2 ^ (128 - getD rs i blank .element)) same in
     marked-or (c .loop-row .bits) (c .bit-bits-in-loop-row .result) k
-      ∙ (λ j. c .loop-row .inv k l h j || marked (bit j) k)
-      ∙ ap (λ b. (eqb 1 k || known (take i table) k) || b) (marked-bit (getD table i blank .element) k (omega (arith, range .0)) (range .1) l h)
-      ∙ or-assoc (eqb 1 k) (known (take i table) k) (eqb (getD table i blank .element) k)
-      ∙ ap (λ b. eqb 1 k || b) (sym (known-more table i blank k within))
+    ∙ (λ j. c .loop-row .inv k l h j || marked (bit j) k)
+    ∙ ap (λ b. (eqb 1 k || known (take i table) k) || b) (marked-bit (getD table i blank .element) k (omega (arith, range .0)) (range .1) l h)
+    ∙ or-assoc (eqb 1 k) (known (take i table) k) (eqb (getD table i blank .element) k)
+    ∙ ap (λ b. eqb 1 k || b) (sym (known-more table i blank k within))
 
 pub returns : need.returns
 returns c k l h =

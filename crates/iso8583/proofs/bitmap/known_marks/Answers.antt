@@ -28,8 +28,8 @@ pub returns : need.returns
 returns c =
     let bits = c .args .bitmap in
     let fine : (marked bits 1 && eqb (bits % 2 ^ 64) 0) ≡ false = elim (c .else-is-marked .came) [
-          else-is-marked·by·then-is-marked·else-bitmap-from-eq0 w ↦
-            and-right _ _ (ne-eqb (bits % 2 ^ 64) 0 (λ e. w .if-bitmap-from-eq0 .left (low bits _ (w .from .ensures) ∙ e)))
-        | else-is-marked·by·else-is-marked w ↦ and-left _ _ (sym (w .if-is-marked .ensures tt))
-        ] in
+      | else-is-marked·by·then-is-marked·else-bitmap-from-eq0 w ↦
+          and-right _ _ (ne-eqb (bits % 2 ^ 64) 0 (λ e. w .if-bitmap-from-eq0 .left (low bits _ (w .from .ensures) ∙ e)))
+      | else-is-marked·by·else-is-marked w ↦ and-left _ _ (sym (w .if-is-marked .ensures tt))
+    ] in
     all-known bits (c .known-bits .result) (omega arith) (omega arith) (c .known-bits .ensures) (c .if-strange-ne0 .left) fine

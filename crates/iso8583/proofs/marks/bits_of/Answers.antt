@@ -11,9 +11,9 @@ pub returns-then-element-gt64 : need.returns-then-element-gt64
 returns-then-element-gt64 c k l h =
     let e = c .args .element in
     marked-or (c .bit .result) (c .bit-then-element-gt64 .result) k
-      ∙ (λ i. marked (c .bit .ensures i) k || marked (c .bit-then-element-gt64 .ensures i) k)
-      ∙ (λ i. marked-bit 1 k (omega arith) (omega arith) l h i || marked-bit e k (omega arith) (omega arith) l h i)
-      ∙ sets-high e k (omega arith) l
+    ∙ (λ i. marked (c .bit .ensures i) k || marked (c .bit-then-element-gt64 .ensures i) k)
+    ∙ (λ i. marked-bit 1 k (omega arith) (omega arith) l h i || marked-bit e k (omega arith) (omega arith) l h i)
+    ∙ sets-high e k (omega arith) l
 
 pub returns-else-element-gt64 : need.returns-else-element-gt64
 returns-else-element-gt64 c k l h =

@@ -26,7 +26,7 @@ returns-in-Break-low c =
     let low = c .in-Break-low .ensures tt .value ∙ ap (half 20) (take-rest bs 20) in
     let double = ap (λ b. marked b 1) (sym (c .joined-first .ensures)) ∙ sym (c .if-not-is-marked .ensures tt) in
     broken _ (λ l. Ok (joined (c .in-Continue-high .high) l)) (c .from-residual-in-Break-low .ensures .1) low
-      ∙ sym (cond-true _ _ _ double) ∙ after-ok (λ h. with-second h bs) high
+    ∙ sym (cond-true _ _ _ double) ∙ after-ok (λ h. with-second h bs) high
 
 pub returns : need.returns
 returns c =
@@ -35,4 +35,4 @@ returns c =
     let low = c .in-Continue-low .ensures tt .value ∙ ap (half 20) (take-rest bs 20) in
     let double = ap (λ b. marked b 1) (sym (c .joined-first .ensures)) ∙ sym (c .if-not-is-marked .ensures tt) in
     ap (λ b. Ok b) (c .joined .ensures) ∙ after-ok (λ l. Ok (joined (c .in-Continue-high .high) l)) low
-      ∙ sym (cond-true _ _ _ double) ∙ after-ok (λ h. with-second h bs) high
+    ∙ sym (cond-true _ _ _ double) ∙ after-ok (λ h. with-second h bs) high

@@ -24,7 +24,7 @@ decided : (row : Row) (at start n : ℕ) (cs : List ℕ) (o : Option ℕ) → n 
 decided row at start n cs o l e =
     let z : n - 0 ≡ n = omega arith in
     ap (told row start n) (e ∙ ap (λ m. wrong (fits (row .format)) (length (take m cs)) start (take m cs)) z ∙ wrong-taken (fits (row .format)) n start cs l)
-      ∙ sym (cond-true _ _ _ (le-leb n (length cs) l))
+    ∙ sym (cond-true _ _ _ (le-leb n (length cs) l))
 
 pub returns-in-Some : need.returns-in-Some
 returns-in-Some c =

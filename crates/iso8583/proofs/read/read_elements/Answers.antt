@@ -54,7 +54,7 @@ returns-in-Break-element c =
     let on = ap (λ rs. marked bits (getD rs i blank .element)) (sym same) ∙ sym (c .if-is-marked .ensures tt) in
     subst (Walked bs bits) (sym (p .1 ∙ ap (λ f. Err f) (p .2)))
     (walk-fails bs bits i at (c .loop-row .count) (c .loop-row .found) (c .loop-row .inv) (c .in-Break-element .field-0 .0) (omega (arith, ap length same)) on
-      (sym (c .in-Break-element .ensures tt ∙ same-element _ bs i at same)))
+    (sym (c .in-Break-element .ensures tt ∙ same-element _ bs i at same)))
 
 pub loop-row-again : need.loop-row-again
 loop-row-again c =
@@ -66,11 +66,11 @@ loop-row-again c =
     let near : i < length table = omega (arith, ap length same) in
     let mark = ap (λ rs. marked bits (getD rs i blank .element)) (sym same) in
     elim (c .if-is-marked .came) [
-        then-is-marked·in-Continue-element w ↦
+      | then-is-marked·in-Continue-element w ↦
           walking-on (w .at-is) (w .count-is) (w .found-is)
           (walk-finds bs bits i at (c .loop-row .count) (c .loop-row .found) (c .loop-row .inv) (w .in-Continue-element .element) near
-            (mark ∙ sym (w .if-is-marked .ensures tt))
-            (sym (w .in-Continue-element .ensures tt ∙ same-element _ bs i at same)))
+          (mark ∙ sym (w .if-is-marked .ensures tt))
+          (sym (w .in-Continue-element .ensures tt ∙ same-element _ bs i at same)))
       | else-is-marked w ↦
           walking-on (w .at-is) (w .count-is) (w .found-is)
           (walk-passes bs bits i at (c .loop-row .count) (c .loop-row .found) (c .loop-row .inv) near (mark ∙ sym (w .if-is-marked .ensures tt)))

@@ -23,7 +23,7 @@ pub loop-i-again : need.loop-i-again
 loop-i-again c =
     let told = c .in-Some .ensures tt in
     one-more hexadecimal 16 16 (c .args .at) (c .args .rest .now) (c .loop-i .i) (c .loop-i .half) (c .from .result)
-      (c .loop-i-test .taken) (c .loop-i .inv) (told .0) (told .1) (c .from .ensures ∙ told .2) (omega (arith, told .3))
+    (c .loop-i-test .taken) (c .loop-i .inv) (told .0) (told .1) (c .from .ensures ∙ told .2) (omega (arith, told .3))
 
 pub returns : need.returns
 returns c = record { long = omega (arith, c .loop-i .inv .inside); value = all-read hexadecimal 16 16 (c .args .at) (c .args .rest .now) (λ i. Bitmap i) (c .loop-i .i) (c .loop-i .half) (omega arith) (c .loop-i .inv) }

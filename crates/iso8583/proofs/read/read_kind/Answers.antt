@@ -13,9 +13,12 @@ loop-place-holds c = none-yet decimal 10 4 0 (c .args .bytes .now)
 
 pub returns-in-rest : need.returns-in-rest
 returns-in-rest c =
-    record { long = tt; value = let e : 0 + c .loop-place .place ≡ c .loop-place .place = omega arith in
-    ap (λ i. Err (Kind i)) (sym e)
-      ∙ stopped decimal 10 4 0 (c .args .bytes .now) (λ i. Kind i) _ (c .loop-place .place) (c .loop-place .kind) (c .loop-place-test .taken) (c .loop-place .inv) (c .in-rest .ensures tt) }
+    record {
+      long = tt;
+      value = let e : 0 + c .loop-place .place ≡ c .loop-place .place = omega arith in
+          ap (λ i. Err (Kind i)) (sym e)
+          ∙ stopped decimal 10 4 0 (c .args .bytes .now) (λ i. Kind i) _ (c .loop-place .place) (c .loop-place .kind) (c .loop-place-test .taken) (c .loop-place .inv) (c .in-rest .ensures tt);
+    }
 
 pub mul-kind : need.mul-kind
 mul-kind c = omega (arith, grows 10 4 _ _ _ (c .loop-place-test .taken) (c .loop-place .inv .small) (c .in-Some .ensures tt .3) .most)
@@ -27,7 +30,7 @@ pub loop-place-again : need.loop-place-again
 loop-place-again c =
     let told = c .in-Some .ensures tt in
     one-more decimal 10 4 0 (c .args .bytes .now) (c .loop-place .place) (c .loop-place .kind) (c .from .result)
-      (c .loop-place-test .taken) (c .loop-place .inv) (told .0) (told .1) (c .from .ensures ∙ told .2) (omega (arith, told .3))
+    (c .loop-place-test .taken) (c .loop-place .inv) (told .0) (told .1) (c .from .ensures ∙ told .2) (omega (arith, told .3))
 
 pub returns : need.returns
 returns c = record { long = omega (arith, c .loop-place .inv .inside); value = all-read decimal 10 4 0 (c .args .bytes .now) (λ i. Kind i) (c .loop-place .place) (c .loop-place .kind) (omega arith) (c .loop-place .inv) }

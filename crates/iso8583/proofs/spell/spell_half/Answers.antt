@@ -14,13 +14,14 @@ turn v d i all text h l e s =
     let before : 16 - i ≡ suc (15 - i) = omega arith in
     let after : 15 - i ≡ 16 - (i + 1) = omega arith in
     spelled-more 16 (15 - i) v d all text (omega arith) e (s ∙ ap (λ n. spelled 16 n v ++ drop n text) before)
-      ∙ ap (λ n. spelled 16 n (v / 16) ++ drop n (set text (15 - i) d)) after
+    ∙ ap (λ n. spelled 16 n (v / 16) ++ drop n (set text (15 - i) d)) after
 
 pub loop-i-again : need.loop-i-again
-loop-i-again c =
-    (length-set (c .loop-i .text) _ _ ∙ c .loop-i .inv .0,
-      turn (c .loop-i .rest) (c .hex-digit .result) (c .loop-i .i) _ (c .loop-i .text) (omega arith) (c .loop-i .inv .0)
-        (c .hex-digit .ensures ∙ ap digit (and-mask (c .loop-i .rest) 4)) (c .loop-i .inv .1))
+loop-i-again c = (
+  length-set (c .loop-i .text) _ _ ∙ c .loop-i .inv .0,
+  turn (c .loop-i .rest) (c .hex-digit .result) (c .loop-i .i) _ (c .loop-i .text) (omega arith) (c .loop-i .inv .0)
+      (c .hex-digit .ensures ∙ ap digit (and-mask (c .loop-i .rest) 4)) (c .loop-i .inv .1),
+)
 
 pub loop-i-holds : need.loop-i-holds
 loop-i-holds c = (refl, sym (append-nil (spelled 16 16 (c .args .half))))

@@ -15,11 +15,13 @@ use Rattle.iso8583.proofs.writer.lay_field.Needs.{then-lead-eq2, else-lead-eq2
 
 pub returns-then-out-at : need.returns-then-out-at
 returns-then-out-at c =
-    let long = lead-field (c .args .size) (c .args .chars .now) in
-    (elim (c .then-out-at .came) [
-        then-out-at·by·then-out-at w ↦ omega (arith, w .if-out-at .taken)
-      | then-out-at·by·else-out-at·then-out-at-2 w ↦ omega (arith, w .if-out-at .left, w .if-out-at-2 .taken)
-    ], refl)
+    let long = lead-field (c .args .size) (c .args .chars .now) in (
+      elim (c .then-out-at .came) [
+        | then-out-at·by·then-out-at w ↦ omega (arith, w .if-out-at .taken)
+        | then-out-at·by·else-out-at·then-out-at-2 w ↦ omega (arith, w .if-out-at .left, w .if-out-at-2 .taken)
+      ],
+      refl,
+    )
 
 -- characters alone, or two digits and then the characters
 alone : (l : Length) (out cs : List ℕ) (at : ℕ) → (lead l ≡ 2 → ⊥) → laid out (at + lead l) cs ≡ laid out at (field l cs)
@@ -37,11 +39,14 @@ returns c =
     let at = c .args .at in
     let l = c .args .size in
     let lead-is = c .lead-lead .ensures in
-    let long = lead-field l cs in
-    (omega arith, omega arith, c .lay-2 .ensures ∙ elim (c .if-lead-eq2 .came) [
-        then-lead-eq2 w ↦
-          (λ i. laid ((w .out-is ∙ w .lay .ensures ∙ ap (laid out at) (w .spell-length .ensures)) i) (at + lead-is i) cs)
+    let long = lead-field l cs in (
+      omega arith,
+      omega arith,
+      c .lay-2 .ensures ∙ elim (c .if-lead-eq2 .came) [
+        | then-lead-eq2 w ↦
+            (λ i. laid ((w .out-is ∙ w .lay .ensures ∙ ap (laid out at) (w .spell-length .ensures)) i) (at + lead-is i) cs)
             ∙ after-digits l out cs at (sym lead-is ∙ w .if-lead-eq2 .taken) (omega arith)
-      | else-lead-eq2 w ↦
-          (λ i. laid (w .out-is i) (at + lead-is i) cs) ∙ alone l out cs at (λ e. w .if-lead-eq2 .left (lead-is ∙ e))
-    ])
+        | else-lead-eq2 w ↦
+            (λ i. laid (w .out-is i) (at + lead-is i) cs) ∙ alone l out cs at (λ e. w .if-lead-eq2 .left (lead-is ∙ e))
+      ],
+    )

@@ -12,4 +12,4 @@ returns-in-None c es a =
     let none = c .in-None .is in
     let bits = c .args .self .now .bitmap in
     ap (λ b. Ok b) (sym (bits-back 128 bits (a .small)) ∙ bits-same (marked bits) (marks es) 128 (a .set none))
-      ∙ ap (λ o. unless o (λ k. Unknown k 0) (bits-from (marks es) 128)) (sym (a .lowest ∙ none))
+    ∙ ap (λ o. unless o (λ k. Unknown k 0) (bits-from (marks es) 128)) (sym (a .lowest ∙ none))

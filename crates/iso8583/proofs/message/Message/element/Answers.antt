@@ -78,7 +78,7 @@ returns-then-element-number c =
 pub loop-i-again : need.loop-i-again
 loop-i-again c =
     c .loop-i .inv ∙ open-at (c .args .self .now) (c .loop-i .i) (c .loop-i-test .taken) (c .args .number)
-      ∙ cond-false _ _ _ (ne-eqb _ _ (c .if-element-number .left))
+    ∙ cond-false _ _ _ (ne-eqb _ _ (c .if-element-number .left))
 
 pub returns : need.returns
 returns c =

@@ -25,4 +25,4 @@ returns-then-out-used c es a =
 pub returns : need.returns
 returns c es a =
     started (c .args .out .now) (c .args .kind) es (omega arith) (c .in-Continue-bitmap .bitmap) (c .in-Continue-bitmap .ensures tt es a) (omega (arith, c .body-used .ensures))
-      ∙ (λ i. Ok (record { out = sym (c .lay-head .ensures) i; used = sym (c .body-used .ensures) i; rest = chosen table (c .in-Continue-bitmap .bitmap) }))
+    ∙ (λ i. Ok (record { out = sym (c .lay-head .ensures) i; used = sym (c .body-used .ensures) i; rest = chosen table (c .in-Continue-bitmap .bitmap) }))

@@ -48,7 +48,7 @@ loop-i-again c =
     let bits = c .args .self .now .bitmap in
     let same = c .rows-row-items .ensures in
     elim (c .else-i-self .came) [
-        else-i-self·by·then-i-self·else-is-marked w ↦
+      | else-i-self·by·then-i-self·else-is-marked w ↦
           c .loop-i .inv ∙ passed bits row i (omega (arith, ap length same)) (w .if-i-self .taken) (ap (λ rs. marked bits (getD rs i blank .element)) (sym same) ∙ sym (w .if-is-marked .ensures tt))
       | else-i-self·by·else-i-self w ↦
           (let e : max row i ≡ max row (i + 1) = omega (arith, w .if-i-self .left) in c .loop-i .inv ∙ ap (λ n. chosen (drop n table) bits) e)
