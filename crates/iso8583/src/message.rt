@@ -3,6 +3,7 @@ ghost use mathlib.Core.Path.{_≡_};
 ghost use Prim.Native.Nat.{_≤_};
 ghost use denote.Ref.{now};
 ghost use lib.ListN.{length, take};
+ghost use Rattle.std.specs.Holes.{between};
 ghost use Rattle.std.specs.declared.result.Result.the-variants.{Ok};
 ghost use Rattle.iso8583.specs.Reading.{reading, parts, body};
 ghost use Rattle.iso8583.specs.Tiled.{Tiled};
@@ -32,4 +33,22 @@ pub struct Element<'a> {
     pub number: u8,
     pub offset: usize,
     pub chars: &'a [u8],
+}
+
+impl Found {
+    // The element that was found in these bytes.
+    pub(crate) fn lend<'a>(&self, bytes: &'a [u8]) -> Element<'a>
+        requires { ⌜ now self .start ≤ now self .end ⌝ ∗ ⌜ now self .end ≤ length (now bytes) ⌝ }
+        ensures number { λ r. ⌜ r .number ≡ now (self .entry) .element ⌝ }
+        ensures offset { λ r. ⌜ r .offset ≡ now (self .entry) .start ⌝ }
+        ensures chars { λ r. ⌜ now (r .chars) ≡ between (now (self .entry) .start) (now (self .entry) .end) (now (bytes .entry)) ⌝ }
+    {
+        let start = self.start;
+        let end = self.end;
+        Element {
+            number: self.element,
+            offset: start,
+            chars: &bytes[start..end],
+        }
+    }
 }

@@ -71,17 +71,9 @@ impl<'a> Message<'a> {
         ensures there { λ r. ⌜ isSome r ≡ present (now (self .entry)) number ⌝ }
     {
         for i in 0..self.count {
-            let Found {
-                element,
-                start,
-                end,
-            } = self.found[i];
-            if element == number {
-                return Some(Element {
-                    number,
-                    offset: start,
-                    chars: &self.bytes[start..end],
-                });
+            let found = self.found[i];
+            if found.element == number {
+                return Some(found.lend(self.bytes));
             }
         }
         None

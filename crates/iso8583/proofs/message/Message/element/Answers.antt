@@ -50,35 +50,31 @@ module _ (m : Message) (i : ℕ) (h : i < m .count) where
       let es = take (m .count) (m .found) in
       ap (λ l. found-of l k) (drop-more es i none near) ∙ ap (λ f. cond (eqb (f .element) k) (Some f) (found-of (drop (i + 1) es) k)) here
 
-pub part-result-count : need.part-result-count
-part-result-count c = forward (c .args .self .now) (c .loop-i .i) (c .loop-i-test .taken)
-
-pub part-result-start : need.part-result-start
-part-result-start c = let h = forward (c .args .self .now) (c .loop-i .i) (c .loop-i-test .taken) in search needs
-
-pub part-result-end : need.part-result-end
-part-result-end c = let h = within-bytes (c .args .self .now) (c .loop-i .i) (c .loop-i-test .taken) in search needs
+pub lend-requires : need.lend-requires
+lend-requires c κs =
+    let m = c .args .self .now in
+    (forward m (c .loop-i .i) (c .loop-i-test .taken), within-bytes m (c .loop-i .i) (c .loop-i-test .taken))
 
 -- what was found is there by the bitmap
 by-bitmap : (m : Message) (k : ℕ) → isSome (found-of (take (m .count) (m .found)) k) ≡ present m k
 by-bitmap m k =
     ∥∥₁-elim (m .whole) (≡-prop codedBool _ _) (λ w. found-present (now (m .bytes)) (m .kind) (m .bitmap) (take (m .count) (m .found)) k (taken-apart _ _ _ _ w))
 
-pub returns-then-element-number : need.returns-then-element-number
-returns-then-element-number c =
+pub returns-then-found-number : need.returns-then-found-number
+returns-then-found-number c =
     let m = c .args .self .now in
     let k = c .args .number in
     let i = c .loop-i .i in
-    let here = c .loop-i .inv ∙ open-at m i (c .loop-i-test .taken) k ∙ cond-true _ _ _ (eq-eqb _ _ (c .if-element-number .taken)) in
+    let here = c .loop-i .inv ∙ open-at m i (c .loop-i-test .taken) k ∙ cond-true _ _ _ (eq-eqb _ _ (c .if-found-number .taken)) in
     record {
-      part = record { found = getD (m .found) i none; here = here; number = refl; offset = refl; chars = refl };
+      part = record { found = getD (m .found) i none; here = here; number = c .lend .ensures .number ∙ c .if-found-number .taken; offset = c .lend .ensures .offset; chars = c .lend .ensures .chars };
       there = sym (ap isSome here) ∙ by-bitmap m k;
     }
 
 pub loop-i-again : need.loop-i-again
 loop-i-again c =
     c .loop-i .inv ∙ open-at (c .args .self .now) (c .loop-i .i) (c .loop-i-test .taken) (c .args .number)
-    ∙ cond-false _ _ _ (ne-eqb _ _ (c .if-element-number .left))
+    ∙ cond-false _ _ _ (ne-eqb _ _ (c .if-found-number .left))
 
 pub returns : need.returns
 returns c =
