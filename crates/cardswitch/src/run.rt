@@ -1,9 +1,9 @@
 // Makes the calls of a deck, in their order, and prints what came of each.
 use crate::deck::Command;
 use crate::deck::Deck;
-use iso8583::compose::compose;
-use iso8583::fault::Layer;
-use iso8583::fault::Refusal;
+use composer::compose::compose;
+use elements::fault::Layer;
+use elements::fault::Refusal;
 use iso8583::message::Element;
 use iso8583::message::Message;
 use std::error::AnyError;

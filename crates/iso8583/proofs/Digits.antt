@@ -12,8 +12,8 @@ use Rattle.std.proofs.shelf.Lists.{drop-set, length-push}
 use Rattle.std.specs.declared.option.Option.the-variants.{Some, None}
 use Rattle.std.proofs.shelf.Tests.{cond-true, cond-false, lt-ltb, le-leb, leb-true, and-from, and-parts, cases-bool}
 use Rattle.iso8583.specs.Reading.{two-digits}
-use Rattle.iso8583.specs.Table.{decimal}
-use Rattle.iso8583.specs.Writing.{digit, spelled}
+use Rattle.elements.specs.Table.{decimal}
+use Rattle.elements.specs.Fields.{digit, spelled}
 
 pub digit-decimal : (d : ℕ) → d < 10 → digit d ≡ 48 + d
 digit-decimal d h = cond-true _ _ _ (lt-ltb d 10 h)

@@ -11,18 +11,18 @@ use Rattle.std.specs.declared.option.Option.the-variants.{Some, None}
 use Rattle.std.specs.declared.result.Result.the-variants.{Ok, Err}
 use Rattle.std.proofs.shelf.Lists.{take-append-drop, length-take-le, append-assoc, length-append}
 use Rattle.std.proofs.shelf.Tests.{leb-true, le-leb, eq-eqb, eqb-true, and-parts, cond-true}
-use Rattle.iso8583.specs.declared.fault.ElementFault.{ElementFault}
-use Rattle.iso8583.specs.declared.fault.ElementFault.the-variants.{Ends, Character}
+use Rattle.elements.specs.declared.fault.ElementFault.{ElementFault}
+use Rattle.elements.specs.declared.fault.ElementFault.the-variants.{Ends, Character}
 use Rattle.iso8583.specs.declared.found.Found.{Found}
-use Rattle.iso8583.specs.declared.table.Length.{Length}
-use Rattle.iso8583.specs.declared.table.Length.the-variants.{Fixed, UpTo}
-use Rattle.iso8583.specs.declared.table.Row.{Row}
+use Rattle.elements.specs.declared.table.Length.{Length}
+use Rattle.elements.specs.declared.table.Length.the-variants.{Fixed, UpTo}
+use Rattle.elements.specs.declared.table.Row.{Row}
 use Rattle.iso8583.specs.Reading.{wrong, unless, characters, measured, sized, two-digits}
-use Rattle.iso8583.specs.Table.{admits, fits, within, lead}
-use Rattle.iso8583.specs.Writing.{field, spelled}
+use Rattle.elements.specs.Table.{admits, fits, within, lead}
+use Rattle.elements.specs.Fields.{field, spelled}
 use Rattle.iso8583.proofs.Digits.{two-read, two-written, length-spelled}
 use Rattle.iso8583.proofs.Outcomes.{never, same-ok, chosen-ok, unless-ok}
-use Rattle.iso8583.proofs.Rows.{short}
+use Rattle.elements.proofs.Rows.{short}
 use Rattle.iso8583.proofs.Wrong.{wrong-append, wrong-take, wrong-long}
 
 -- the element e, read at place `at` of a message that goes on with cs

@@ -13,17 +13,17 @@ use Rattle.std.specs.declared.option.Option.the-variants.{Some, None}
 use Rattle.std.specs.declared.result.Result.{Result}
 use Rattle.std.specs.declared.result.Result.the-variants.{Ok, Err}
 use Rattle.std.proofs.shelf.Tests.{cond-true, cond-false, cases-bool, eqb-true, eq-eqb, both-ways, and-left, and-right, and-from, and-parts, or-left, le-leb, leb-true}
-use Rattle.iso8583.specs.declared.fault.MessageFault.{MessageFault}
-use Rattle.iso8583.specs.declared.fault.MessageFault.the-variants.{Unknown, Empty}
+use Rattle.elements.specs.declared.fault.MessageFault.{MessageFault}
+use Rattle.elements.specs.declared.fault.MessageFault.the-variants.{Unknown, Empty}
 use Rattle.iso8583.specs.declared.found.Found.{Found}
-use Rattle.iso8583.specs.declared.table.Row.{Row}
+use Rattle.elements.specs.declared.table.Row.{Row}
 use Rattle.iso8583.specs.Bitmap.{marked, first, strange}
 use Rattle.iso8583.specs.Messages.{found-of}
 use Rattle.iso8583.specs.Reading.{after, unless, kind-of, bits-of, marks-of, marked-at, body, elements, Parts, parts, reading}
-use Rattle.iso8583.specs.Table.{table, known, within}
+use Rattle.elements.specs.Table.{table, known, within}
 use Rattle.iso8583.proofs.Firsts.{first-none}
 use Rattle.iso8583.proofs.Outcomes.{never, same-ok, unless-ok, after-is-ok}
-use Rattle.iso8583.proofs.Rows.{proper-table, known-range}
+use Rattle.elements.proofs.Rows.{proper-table, known-range}
 use Rattle.iso8583.proofs.Tiles.{Stepped, stepped}
 use Rattle.iso8583.proofs.Wholes.{from-kind, from-bits}
 

@@ -12,12 +12,12 @@ use Rattle.std.specs.declared.option.Option.{Option}
 use Rattle.std.specs.declared.option.Option.the-variants.{Some, None}
 use Rattle.std.specs.declared.result.Result.{Result}
 use Rattle.std.specs.declared.result.Result.the-variants.{Ok, Err}
-use Rattle.iso8583.specs.declared.fault.MessageFault.{MessageFault}
-use Rattle.iso8583.specs.declared.fault.MessageFault.the-variants.{Unknown, Empty}
+use Rattle.elements.specs.declared.fault.MessageFault.{MessageFault}
+use Rattle.elements.specs.declared.fault.MessageFault.the-variants.{Unknown, Empty}
 use Rattle.iso8583.specs.Reading.{after, unless, marked-at, marks-of}
 use Rattle.std.proofs.shelf.Tests.{eq-eqb, ne-eqb, cases-eq, both-ways, and-from, and-right, cond-true, cond-false}
 use Rattle.iso8583.specs.Bitmap.{marked, first, strange}
-use Rattle.iso8583.specs.Table.{table, known}
+use Rattle.elements.specs.Table.{table, known}
 use Rattle.iso8583.proofs.Bits.{marked-and, marked-flip, Top, top}
 use Rattle.iso8583.proofs.Firsts.{first-finds, first-fails}
 

@@ -11,19 +11,19 @@ use Rattle.std.specs.declared.result.Result.{Result}
 use Rattle.std.specs.declared.result.Result.the-variants.{Ok, Err}
 use Rattle.std.proofs.shelf.Lists.{length-append, length-drop, drop-at}
 use Rattle.std.proofs.shelf.Tests.{cond-true, cond-false, eq-eqb, ne-eqb, cases-bool}
-use Rattle.iso8583.specs.declared.fault.ElementFault.{ElementFault}
-use Rattle.iso8583.specs.declared.fault.MessageFault.{MessageFault}
+use Rattle.elements.specs.declared.fault.ElementFault.{ElementFault}
+use Rattle.elements.specs.declared.fault.MessageFault.{MessageFault}
 use Rattle.iso8583.specs.declared.found.Found.{Found}
-use Rattle.iso8583.specs.declared.table.Length.{Length}
-use Rattle.iso8583.specs.declared.table.Row.{Row}
+use Rattle.elements.specs.declared.table.Length.{Length}
+use Rattle.elements.specs.declared.table.Row.{Row}
 use Rattle.iso8583.specs.Bitmap.{marked}
 use Rattle.iso8583.specs.Reading.{after, before, lifted, element-at, elements, sized, body}
-use Rattle.iso8583.specs.Table.{table, lead}
+use Rattle.elements.specs.Table.{table, lead}
 use Rattle.iso8583.specs.Tiled.{Tiled, lead-of}
-use Rattle.iso8583.specs.Writing.{field}
+use Rattle.elements.specs.Fields.{field}
 use Rattle.iso8583.proofs.Elements.{Spelt, spelt, lead-field}
 use Rattle.iso8583.proofs.Outcomes.{never, same-ok, after-is-ok}
-use Rattle.iso8583.proofs.Rows.{Proper, proper, proper-first, proper-table}
+use Rattle.elements.proofs.Rows.{Proper, proper, proper-first, proper-table}
 
 lifted-ok : (r : Result Found ElementFault) (e : Found) → lifted r ≡ Ok e → r ≡ Ok e
 lifted-ok (Ok a) e h = ap (λ x. Ok x) (same-ok h)

@@ -9,14 +9,14 @@ use Rattle.std.specs.declared.result.Result.{Result}
 use Rattle.std.specs.declared.result.Result.the-variants.{Ok, Err}
 use Rattle.std.proofs.shelf.Lists.{drop-more, drop-all, drop-drop, length-set, length-drop, length-append, take-more-set}
 use Rattle.std.proofs.shelf.Tests.{cond-true, cond-false}
-use Rattle.iso8583.specs.declared.fault.ElementFault.{ElementFault}
-use Rattle.iso8583.specs.declared.fault.MessageFault.{MessageFault}
-use Rattle.iso8583.specs.declared.fault.MessageFault.the-variants.{Element, Trailing}
+use Rattle.elements.specs.declared.fault.ElementFault.{ElementFault}
+use Rattle.elements.specs.declared.fault.MessageFault.{MessageFault}
+use Rattle.elements.specs.declared.fault.MessageFault.the-variants.{Element, Trailing}
 use Rattle.iso8583.specs.declared.found.Found.{Found}
-use Rattle.iso8583.specs.declared.table.Row.{Row}
+use Rattle.elements.specs.declared.table.Row.{Row}
 use Rattle.iso8583.specs.Bitmap.{marked}
 use Rattle.iso8583.specs.Reading.{after, before, body, lifted, element-at, elements, sized}
-use Rattle.iso8583.specs.Table.{table, blank}
+use Rattle.elements.specs.Table.{table, blank}
 use Rattle.iso8583.specs.Walked.{Walked}
 use Rattle.iso8583.proofs.Elements.{Spelt, spelt}
 

@@ -12,12 +12,12 @@ use Rattle.std.specs.declared.result.Result.{Result}
 use Rattle.std.specs.declared.result.Result.the-variants.{Ok, Err}
 use Rattle.std.proofs.shelf.Lists.{length-drop}
 use Rattle.std.proofs.shelf.Tests.{cond-true, cond-false, cond-both, cases-bool}
-use Rattle.iso8583.specs.declared.fault.MessageFault.{MessageFault}
-use Rattle.iso8583.specs.declared.fault.MessageFault.the-variants.{Bitmap, Unknown, Empty}
+use Rattle.elements.specs.declared.fault.MessageFault.{MessageFault}
+use Rattle.elements.specs.declared.fault.MessageFault.the-variants.{Bitmap, Unknown, Empty}
 use Rattle.iso8583.specs.declared.found.Found.{Found}
 use Rattle.iso8583.specs.Bitmap.{marked, joined, first, strange}
 use Rattle.iso8583.specs.Reading.{after, unless, wrong, kind-of, half, with-second, bits-of, marks-of, marked-at, body, elements, parts, Parts, reading}
-use Rattle.iso8583.specs.Table.{table, hexadecimal}
+use Rattle.elements.specs.Table.{table, hexadecimal}
 use Rattle.iso8583.proofs.Outcomes.{never, same-ok, unless-ok, after-is-ok}
 use Rattle.iso8583.proofs.Steps.{after-ok}
 use Rattle.iso8583.proofs.Wrong.{wrong-long}

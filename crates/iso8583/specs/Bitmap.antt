@@ -5,7 +5,7 @@ use Prim.Native.Nat.{ℕ, zero, suc, _+_, _-_, _*_, _/_, _%_, _^_}
 use lib.Dec.{eqb}
 use Rattle.std.specs.declared.option.Option.{Option}
 use Rattle.std.specs.declared.option.Option.the-variants.{Some, None}
-use Rattle.iso8583.specs.Table.{table, known}
+use Rattle.elements.specs.Table.{table, known}
 
 -- bit k says that element k is present; bit 1, that a second bitmap follows
 abbrev pub marked : ℕ → ℕ → Bool

@@ -1,16 +1,5 @@
-pub mod Announced
 pub mod Bitmap
-pub mod Composes
-pub mod Contents
-pub mod Laws
 pub mod Messages
-pub mod Moments
-pub mod Numbers
-pub mod Originals
 pub mod Reading
-pub mod Refusals
-pub mod Table
 pub mod Tiled
 pub mod Walked
-pub mod Writers
-pub mod Writing

@@ -11,13 +11,13 @@ use Rattle.std.specs.declared.option.Option.{Option}
 use Rattle.std.specs.declared.option.Option.the-variants.{Some, None}
 use Rattle.std.specs.declared.result.Result.{Result}
 use Rattle.std.specs.declared.result.Result.the-variants.{Ok, Err}
-use Rattle.iso8583.specs.declared.fault.MessageFault.{MessageFault}
+use Rattle.elements.specs.declared.fault.MessageFault.{MessageFault}
 use Rattle.iso8583.specs.declared.found.Found.{Found}
 use Rattle.iso8583.specs.declared.message.Element.{Element}
 use Rattle.iso8583.specs.declared.message.Message.{Message}
 use Rattle.iso8583.specs.Bitmap.{marked}
 use Rattle.iso8583.specs.Reading.{Parts, parts, reading}
-use Rattle.iso8583.specs.Table.{within}
+use Rattle.elements.specs.Table.{within}
 
 abbrev pub parts-of : Message → Parts
 parts-of m = parts (m .kind) (m .bitmap) (take (m .count) (m .found))

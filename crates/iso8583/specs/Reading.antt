@@ -9,16 +9,16 @@ use Rattle.std.specs.declared.option.Option.{Option}
 use Rattle.std.specs.declared.option.Option.the-variants.{Some, None}
 use Rattle.std.specs.declared.result.Result.{Result}
 use Rattle.std.specs.declared.result.Result.the-variants.{Ok, Err}
-use Rattle.iso8583.specs.declared.fault.ElementFault.{ElementFault}
-use Rattle.iso8583.specs.declared.fault.ElementFault.the-variants.{Ends, Length, Character}
-use Rattle.iso8583.specs.declared.fault.MessageFault.{MessageFault}
-use Rattle.iso8583.specs.declared.fault.MessageFault.the-variants.{Kind, Bitmap, Unknown, Empty, Element, Trailing}
+use Rattle.elements.specs.declared.fault.ElementFault.{ElementFault}
+use Rattle.elements.specs.declared.fault.ElementFault.the-variants.{Ends, Length, Character}
+use Rattle.elements.specs.declared.fault.MessageFault.{MessageFault}
+use Rattle.elements.specs.declared.fault.MessageFault.the-variants.{Kind, Bitmap, Unknown, Empty, Element, Trailing}
 use Rattle.iso8583.specs.declared.found.Found.{Found}
-use Rattle.iso8583.specs.declared.table.Length.{Length as Lengths}
-use Rattle.iso8583.specs.declared.table.Length.the-variants.{Fixed, UpTo}
-use Rattle.iso8583.specs.declared.table.Row.{Row}
+use Rattle.elements.specs.declared.table.Length.{Length as Lengths}
+use Rattle.elements.specs.declared.table.Length.the-variants.{Fixed, UpTo}
+use Rattle.elements.specs.declared.table.Row.{Row}
 use Rattle.iso8583.specs.Bitmap.{marked, joined, first, strange}
-use Rattle.iso8583.specs.Table.{table, decimal, hexadecimal, fits, within}
+use Rattle.elements.specs.Table.{table, decimal, hexadecimal, fits, within}
 
 -- what comes after a step that may refuse
 abbrev pub after : {A B F : Type 0} → Result A F → (A → Result B F) → Result B F

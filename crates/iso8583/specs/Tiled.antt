@@ -5,8 +5,8 @@ use mathlib.Core.List.{List, [], _∷_}
 use Prim.Native.Nat.{ℕ, _+_, _≤_, _<_}
 use lib.Dec.{eqb}
 use Rattle.iso8583.specs.declared.found.Found.{Found}
-use Rattle.iso8583.specs.declared.table.Row.{Row}
-use Rattle.iso8583.specs.Table.{table, lead}
+use Rattle.elements.specs.declared.table.Row.{Row}
+use Rattle.elements.specs.Table.{table, lead}
 
 -- how many length digits stand before an element of the table
 abbrev pub lead-of : List Row → ℕ → ℕ

@@ -5,10 +5,10 @@ use Prim.Native.Nat.{ℕ, _≤_}
 use lib.ListN.{length, take, drop}
 use Rattle.std.specs.declared.result.Result.{Result}
 use Rattle.std.specs.declared.result.Result.the-variants.{Ok, Err}
-use Rattle.iso8583.specs.declared.fault.MessageFault.{MessageFault}
+use Rattle.elements.specs.declared.fault.MessageFault.{MessageFault}
 use Rattle.iso8583.specs.declared.found.Found.{Found}
 use Rattle.iso8583.specs.Reading.{body, elements}
-use Rattle.iso8583.specs.Table.{table}
+use Rattle.elements.specs.Table.{table}
 
 -- the places of the elements stand at the front of the array, and the rest of it does not count
 abbrev pub Walked : List ℕ → ℕ → Result (List Found × ℕ) MessageFault → Type 0

@@ -5,19 +5,19 @@ ghost use mathlib.Core.Bool.{_||_};
 ghost use lib.Dec.{eqb};
 ghost use Rattle.iso8583.specs.Bitmap.{marked, joined};
 ghost use Rattle.iso8583.specs.Reading.{body, marks-of};
-ghost use Rattle.iso8583.specs.Table.{table, known};
-use crate::fault::MessageFault;
-use crate::table::rows;
+ghost use Rattle.elements.specs.Table.{table, known};
+use elements::fault::MessageFault;
+use elements::table::rows;
 
 // The bit of an element, in a number of 128.
-pub(crate) fn bit(element: u8) -> u128
+pub fn bit(element: u8) -> u128
     requires { ⌜ 1 ≤ element ⌝ ∗ ⌜ element ≤ 128 ⌝ }
     ensures { λ r. ⌜ r ≡ 2 ^ (128 - element) ⌝ }
 {
     1 << (128 - element)
 }
 
-pub(crate) fn is_marked(bitmap: u128, element: u8) -> bool
+pub fn is_marked(bitmap: u128, element: u8) -> bool
     requires { ⌜ 1 ≤ element ⌝ ∗ ⌜ element ≤ 128 ⌝ }
     ensures { λ r. ⌜ r ≡ marked bitmap element ⌝ }
 {
@@ -25,7 +25,7 @@ pub(crate) fn is_marked(bitmap: u128, element: u8) -> bool
 }
 
 // Where the first element of a message starts.
-pub(crate) fn body(bitmap: u128) -> usize
+pub fn body(bitmap: u128) -> usize
     ensures { λ r. ⌜ r ≡ body bitmap ⌝ }
 {
     if is_marked(bitmap, 1) { 36 } else { 20 }
@@ -39,7 +39,7 @@ pub(crate) fn joined(high: u64, low: u64) -> u128
 }
 
 // The bits of the table's elements, and bit 1.
-pub(crate) fn known_bits() -> u128
+pub fn known_bits() -> u128
     ensures { λ r. ⌜ ((k : ℕ) → 1 ≤ k → k ≤ 128 → marked r k ≡ (eqb 1 k || known table k)) ⌝ }
 {
     let mut bits = bit(1);

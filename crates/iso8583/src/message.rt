@@ -8,7 +8,7 @@ ghost use Rattle.std.specs.declared.result.Result.the-variants.{Ok};
 ghost use Rattle.iso8583.specs.Reading.{reading, parts, body};
 ghost use Rattle.iso8583.specs.Tiled.{Tiled};
 use crate::found::Found;
-use crate::table::ROWS;
+use elements::table::ROWS;
 
 mod methods;
 

@@ -7,20 +7,20 @@ ghost use Rattle.std.specs.Options.{Cases as BySome};
 ghost use Rattle.std.specs.Text.{digitValue};
 ghost use Rattle.std.specs.Vec.{made};
 ghost use Rattle.iso8583.specs.Reading.{kind-of, half, bits-of, body, wrong, characters, two-digits, sized};
-ghost use Rattle.iso8583.specs.Table.{decimal, hexadecimal, fits};
+ghost use Rattle.elements.specs.Table.{decimal, hexadecimal, fits};
 ghost use Rattle.iso8583.specs.Walked.{Walked};
 use crate::bitmap::body;
 use crate::bitmap::is_marked;
 use crate::bitmap::joined;
-use crate::fault::ElementFault;
-use crate::fault::MessageFault;
-use crate::fault::MessageFaultFromElement;
 use crate::found::Found;
-use crate::table::Format;
-use crate::table::Length;
-use crate::table::ROWS;
-use crate::table::Row;
-use crate::table::rows;
+use elements::fault::ElementFault;
+use elements::fault::MessageFault;
+use elements::fault::MessageFaultFromElement;
+use elements::table::Format;
+use elements::table::Length;
+use elements::table::ROWS;
+use elements::table::Row;
+use elements::table::rows;
 
 // The decimal digit at a place, if one stands there.
 fn decimal_at(bytes: &[u8], place: usize) -> Option<u8>
@@ -93,7 +93,7 @@ pub(crate) fn read_bitmap(bytes: &[u8]) -> Result<u128, MessageFault>
 }
 
 // The place of the first character that does not fit a format, counted from `start`.
-pub(crate) fn first_wrong(format: Format, start: usize, chars: &[u8]) -> Option<usize>
+pub fn first_wrong(format: Format, start: usize, chars: &[u8]) -> Option<usize>
     requires { ⌜ start + length (now chars) < 2 ^ 64 ⌝ }
     ensures { λ r. ⌜ r ≡ wrong (fits format) (length (now (chars .entry))) start (now (chars .entry)) ⌝ }
 {

@@ -5,14 +5,14 @@ ghost use Rattle.std.specs.Options.{isSome};
 ghost use Rattle.iso8583.specs.Messages.{Took, Handed, present};
 use crate::bitmap::is_marked;
 use crate::bitmap::known_marks;
-use crate::fault::MessageFault;
 use crate::found::Found;
 use crate::message::Element;
 use crate::message::Message;
 use crate::read::read_bitmap;
 use crate::read::read_elements;
 use crate::read::read_kind;
-use crate::table::ROWS;
+use elements::fault::MessageFault;
+use elements::table::ROWS;
 
 // The shortest message that there is: type 0000, and no elements.
 const SHORTEST: &[u8] = b"00000000000000000000";

@@ -6,9 +6,9 @@ use lib.Dec.{eqb}
 use lib.ListN.{length, getD, take}
 use Rattle.std.proofs.shelf.Lists.{take-all}
 use Rattle.iso8583.specs.Bitmap.{marked}
-use Rattle.iso8583.specs.Table.{table, blank, known}
+use Rattle.elements.specs.Table.{table, blank, known}
 use Rattle.iso8583.proofs.Bits.{marked-or, marked-bit}
-use Rattle.iso8583.proofs.Rows.{in-table, known-more}
+use Rattle.elements.proofs.Rows.{in-table, known-more}
 use Rattle.iso8583.proofs.bitmap.known_bits.Needs as need
 
 pub loop-row-holds : need.loop-row-holds

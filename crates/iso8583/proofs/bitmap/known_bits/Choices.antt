@@ -4,7 +4,7 @@ use Prim.Native.Nat.{ℕ, _≤_}
 use lib.Dec.{eqb}
 use lib.ListN.{take}
 use Rattle.iso8583.specs.Bitmap.{marked}
-use Rattle.iso8583.specs.Table.{table, known}
+use Rattle.elements.specs.Table.{table, known}
 use Rattle.iso8583.proofs.bitmap.known_bits.Given as given
 
 abbrev pub Inv-loop-row : given.InvT-loop-row

@@ -1,7 +1,7 @@
 use mathlib.Core.Path.{_≡_, sym, _∙_}
 use native.Mathlib.Omega.{arith}
 use lib.ListN.{length}
-use Rattle.iso8583.specs.Table.{fits}
+use Rattle.elements.specs.Table.{fits}
 use Rattle.iso8583.proofs.Wrong.{wrong-none, wrong-more, wrong-here, wrong-all}
 use Rattle.iso8583.proofs.read.first_wrong.Needs as need
 

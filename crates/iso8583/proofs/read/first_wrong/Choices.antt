@@ -1,7 +1,7 @@
 use mathlib.Core.Path.{_≡_}
 use lib.ListN.{length}
 use Rattle.iso8583.specs.Reading.{wrong}
-use Rattle.iso8583.specs.Table.{fits}
+use Rattle.elements.specs.Table.{fits}
 use Rattle.iso8583.proofs.Wrong.{wrong-from}
 use Rattle.iso8583.proofs.read.first_wrong.Given as given
 

@@ -7,12 +7,12 @@ use Rattle.std.specs.declared.option.Option.{Option}
 use Rattle.std.specs.declared.option.Option.the-variants.{Some, None}
 use Rattle.std.specs.declared.result.Result.{Result}
 use Rattle.std.proofs.shelf.Tests.{cond-true, le-leb}
-use Rattle.iso8583.specs.declared.fault.ElementFault.{ElementFault}
-use Rattle.iso8583.specs.declared.fault.ElementFault.the-variants.{Character}
+use Rattle.elements.specs.declared.fault.ElementFault.{ElementFault}
+use Rattle.elements.specs.declared.fault.ElementFault.the-variants.{Character}
 use Rattle.iso8583.specs.declared.found.Found.{Found}
-use Rattle.iso8583.specs.declared.table.Row.{Row}
+use Rattle.elements.specs.declared.table.Row.{Row}
 use Rattle.iso8583.specs.Reading.{unless, wrong, characters}
-use Rattle.iso8583.specs.Table.{fits}
+use Rattle.elements.specs.Table.{fits}
 use Rattle.iso8583.proofs.Wrong.{wrong-taken}
 use Rattle.iso8583.proofs.read.read_characters.Needs as need
 

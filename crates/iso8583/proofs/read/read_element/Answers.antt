@@ -8,10 +8,10 @@ use lib.ListN.{length, getD, drop}
 use Rattle.std.specs.declared.option.Option.the-variants.{Some}
 use Rattle.std.proofs.shelf.Lists.{take-rest}
 use Rattle.std.proofs.shelf.Tests.{cond-true, le-leb, and-from}
-use Rattle.iso8583.specs.declared.table.Length.the-variants.{UpTo}
-use Rattle.iso8583.specs.declared.table.Row.{Row}
+use Rattle.elements.specs.declared.table.Length.the-variants.{UpTo}
+use Rattle.elements.specs.declared.table.Row.{Row}
 use Rattle.iso8583.specs.Reading.{sized, measured, characters, two-digits}
-use Rattle.iso8583.specs.Table.{within}
+use Rattle.elements.specs.Table.{within}
 use Rattle.iso8583.proofs.read.read_element.Needs as need
 
 -- a variable element whose length is in range

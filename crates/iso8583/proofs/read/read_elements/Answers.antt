@@ -6,13 +6,13 @@ use lib.ListN.{length, getD, take, drop}
 use Rattle.std.proofs.shelf.Lists.{take-rest}
 use Rattle.std.proofs.shelf.Results.{err-from-errBy}
 use Rattle.std.specs.declared.result.Result.the-variants.{Err}
-use Rattle.iso8583.specs.declared.fault.MessageFault.the-variants.{Element}
-use Rattle.iso8583.specs.declared.table.Row.{Row}
+use Rattle.elements.specs.declared.fault.MessageFault.the-variants.{Element}
+use Rattle.elements.specs.declared.table.Row.{Row}
 use Rattle.iso8583.specs.Bitmap.{marked}
 use Rattle.iso8583.specs.Reading.{sized}
-use Rattle.iso8583.specs.Table.{table, blank}
+use Rattle.elements.specs.Table.{table, blank}
 use Rattle.iso8583.specs.Walked.{Walked}
-use Rattle.iso8583.proofs.Rows.{in-table}
+use Rattle.elements.proofs.Rows.{in-table}
 use Rattle.iso8583.proofs.Walks.{Walking, walk-starts, walk-passes, walk-finds, walk-fails, walk-ends, walk-trails, walking-on}
 use Rattle.iso8583.proofs.read.read_elements.Needs as need
 use Rattle.iso8583.proofs.read.read_elements.Needs.{then-is-marked·in-Continue-element, else-is-marked}

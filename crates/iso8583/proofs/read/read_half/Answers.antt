@@ -1,7 +1,7 @@
 use mathlib.Core.Path.{_∙_}
 use native.Mathlib.Omega.{arith}
-use Rattle.iso8583.specs.declared.fault.MessageFault.the-variants.{Bitmap}
-use Rattle.iso8583.specs.Table.{hexadecimal}
+use Rattle.elements.specs.declared.fault.MessageFault.the-variants.{Bitmap}
+use Rattle.elements.specs.Table.{hexadecimal}
 use Rattle.iso8583.proofs.Numerals.{none-yet, one-more, all-read, stopped}
 use Rattle.iso8583.proofs.Values.{grows}
 use Rattle.iso8583.proofs.read.read_half.Needs as need

@@ -1,4 +1,4 @@
-use Rattle.iso8583.specs.Table.{hexadecimal}
+use Rattle.elements.specs.Table.{hexadecimal}
 use Rattle.iso8583.proofs.Numerals.{Sofar}
 use Rattle.iso8583.proofs.read.read_half.Given as given
 

@@ -1,9 +1,9 @@
 use mathlib.Core.Path.{_≡_, sym, ap, _∙_}
 use Prim.Native.Nat.{_+_}
 use native.Mathlib.Omega.{arith}
-use Rattle.iso8583.specs.declared.fault.MessageFault.the-variants.{Kind}
+use Rattle.elements.specs.declared.fault.MessageFault.the-variants.{Kind}
 use Rattle.std.specs.declared.result.Result.the-variants.{Err}
-use Rattle.iso8583.specs.Table.{decimal}
+use Rattle.elements.specs.Table.{decimal}
 use Rattle.iso8583.proofs.Numerals.{none-yet, one-more, all-read, stopped}
 use Rattle.iso8583.proofs.Values.{grows}
 use Rattle.iso8583.proofs.read.read_kind.Needs as need

@@ -1,4 +1,4 @@
-use Rattle.iso8583.specs.Table.{decimal}
+use Rattle.elements.specs.Table.{decimal}
 use Rattle.iso8583.proofs.Numerals.{Sofar}
 use Rattle.iso8583.proofs.read.read_kind.Given as given
 

@@ -1,6 +1,6 @@
 use mathlib.Core.Path.{refl}
 use native.Mathlib.Omega.{arith}
-use Rattle.iso8583.specs.Table.{table}
+use Rattle.elements.specs.Table.{table}
 use Rattle.iso8583.proofs.message.Message.shortest.Needs as need
 
 pub ghost-result : need.ghost-result

@@ -1,0 +1,10 @@
+pub mod Bitmaps
+pub mod Bodies
+pub mod Heads
+pub mod Lays
+pub mod Lows
+pub mod Puts
+pub mod Rounds
+pub mod Sets
+pub mod Spellings
+pub mod Starts

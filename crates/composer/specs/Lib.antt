@@ -1,0 +1,6 @@
+pub mod Announced
+pub mod Composes
+pub mod Contents
+pub mod Laws
+pub mod Writers
+pub mod Writing

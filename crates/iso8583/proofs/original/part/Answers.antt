@@ -1,7 +1,0 @@
-use native.Mathlib.Omega.{arith}
-use Rattle.iso8583.proofs.Fractions.{part-is}
-use Rattle.iso8583.proofs.original.part.Needs as need
-
-pub returns : need.returns
-returns c =
-    let h = part-is (c .args .digits .now) (c .args .from) (c .args .to) (omega arith) (omega arith) (omega arith) (c .pre .1 .1 .1) in simp (c .number .ensures) h
