@@ -5,7 +5,7 @@ use composer::compose::compose;
 use elements::fault::Layer;
 use elements::fault::Refusal;
 use iso8583::message::Element;
-use iso8583::message::Message;
+use iso8583::message::Layout;
 use std::error::AnyError;
 use std::io;
 use std::str;
@@ -34,12 +34,13 @@ pub fn run(rt: &LibcRuntime, deck: &Deck) -> Result<(), AnyError> {
 
 // Prints the type of a message, its elements, and the message that the writer makes from them again.
 fn take_apart(rt: &LibcRuntime, bytes: &[u8], room: usize) -> Result<(), AnyError> {
-    let mut message = Message::shortest();
-    if let Err(fault) = message.read(bytes) {
-        return Ok(print_refusal(rt, fault.refusal())?);
-    }
-    let kind = message.kind();
-    println!(rt, "type {kind:04}")?;
+    let layout = match Layout::read(bytes) {
+        Ok(layout) => layout,
+        Err(fault) => return Ok(print_refusal(rt, fault.refusal())?),
+    };
+    let message = layout.over(bytes);
+    let mti = message.mti();
+    println!(rt, "type {mti:04}")?;
     let mut elements = Vec::new(rt.alloc());
     for number in 2..=128 {
         if let Some(element) = message.element(number) {
@@ -47,7 +48,7 @@ fn take_apart(rt: &LibcRuntime, bytes: &[u8], room: usize) -> Result<(), AnyErro
             elements.push(element)?;
         }
     }
-    write_again(rt, kind, elements.as_slice(), room)
+    write_again(rt, mti, elements.as_slice(), room)
 }
 
 fn print_element(rt: &LibcRuntime, element: Element) -> Result<(), AnyError> {
@@ -60,12 +61,12 @@ fn print_element(rt: &LibcRuntime, element: Element) -> Result<(), AnyError> {
 
 fn write_again(
     rt: &LibcRuntime,
-    kind: u16,
+    mti: u16,
     elements: &[Element],
     room: usize,
 ) -> Result<(), AnyError> {
     let mut buffer = vec![in rt.alloc(); 0; room.min(ENOUGH)]?;
-    let length = match compose(buffer.as_mut_slice(), kind, elements) {
+    let length = match compose(buffer.as_mut_slice(), mti, elements) {
         Ok(length) => length,
         Err(fault) => return Ok(print_refusal(rt, fault.refusal())?),
     };

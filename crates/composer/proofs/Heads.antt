@@ -15,9 +15,9 @@ use Rattle.std.proofs.shelf.Digits.{value-lt}
 use Rattle.std.proofs.shelf.Lists.{take-at, drop-at, drop-drop, take-append-drop, length-append, length-drop, length-take-le}
 use Rattle.std.proofs.shelf.Tests.{cond-true, cond-false, cases-bool, both-ways}
 use Rattle.elements.specs.declared.fault.MessageFault.{MessageFault}
-use Rattle.elements.specs.declared.fault.MessageFault.the-variants.{Kind, Bitmap}
+use Rattle.elements.specs.declared.fault.MessageFault.the-variants.{Mti, Bitmap}
 use Rattle.iso8583.specs.Bitmap.{marked, joined}
-use Rattle.iso8583.specs.Reading.{after, unless, wrong, kind-of, half, with-second, bits-of, body}
+use Rattle.iso8583.specs.Reading.{after, unless, wrong, mti-of, half, with-second, bits-of, body}
 use Rattle.elements.specs.Table.{decimal, hexadecimal}
 use Rattle.elements.specs.Fields.{spelled}
 use Rattle.composer.specs.Writing.{head}
@@ -62,27 +62,27 @@ abbrev low-text : ℕ → List ℕ
 low-text bits = cond (marked bits 1) (spelled 16 16 (bits % 2 ^ 64)) []
 
 -- written, then read
-module _ (kind bits : ℕ) (rest : List ℕ) (h : kind ≤ 9999) (s : Sound bits) where
+module _ (mti bits : ℕ) (rest : List ℕ) (h : mti ≤ 9999) (s : Sound bits) where
   abbrev whole : List ℕ
-  whole = head kind bits ++ rest
+  whole = head mti bits ++ rest
 
-  apart : whole ≡ spelled 10 4 kind ++ (spelled 16 16 (bits / 2 ^ 64) ++ (low-text bits ++ rest))
+  apart : whole ≡ spelled 10 4 mti ++ (spelled 16 16 (bits / 2 ^ 64) ++ (low-text bits ++ rest))
   unfolding head
   apart =
-      append-assoc (spelled 10 4 kind) (spelled 16 16 (bits / 2 ^ 64) ++ low-text bits) rest
-      ∙ ap (λ l. spelled 10 4 kind ++ l) (append-assoc (spelled 16 16 (bits / 2 ^ 64)) (low-text bits) rest)
+      append-assoc (spelled 10 4 mti) (spelled 16 16 (bits / 2 ^ 64) ++ low-text bits) rest
+      ∙ ap (λ l. spelled 10 4 mti ++ l) (append-assoc (spelled 16 16 (bits / 2 ^ 64)) (low-text bits) rest)
 
-  pub kind-read : kind-of whole ≡ Ok kind
-  kind-read = ap kind-of apart ∙ numeral-read ten 4 (λ i. Kind i) 0 kind _ (omega arith)
+  pub mti-read : mti-of whole ≡ Ok mti
+  mti-read = ap mti-of apart ∙ numeral-read ten 4 (λ i. Mti i) 0 mti _ (omega arith)
 
-  after-kind : drop 4 whole ≡ spelled 16 16 (bits / 2 ^ 64) ++ (low-text bits ++ rest)
-  after-kind = ap (drop 4) apart ∙ drop-at (spelled 10 4 kind) _ 4 (length-spelled 10 4 kind)
+  after-mti : drop 4 whole ≡ spelled 16 16 (bits / 2 ^ 64) ++ (low-text bits ++ rest)
+  after-mti = ap (drop 4) apart ∙ drop-at (spelled 10 4 mti) _ 4 (length-spelled 10 4 mti)
 
   after-high : drop 20 whole ≡ low-text bits ++ rest
-  after-high = sym (drop-drop 16 4 whole) ∙ ap (drop 16) after-kind ∙ drop-at (spelled 16 16 (bits / 2 ^ 64)) _ 16 (length-spelled 16 16 (bits / 2 ^ 64))
+  after-high = sym (drop-drop 16 4 whole) ∙ ap (drop 16) after-mti ∙ drop-at (spelled 16 16 (bits / 2 ^ 64)) _ 16 (length-spelled 16 16 (bits / 2 ^ 64))
 
   high-read : half 4 (drop 4 whole) ≡ Ok (bits / 2 ^ 64)
-  high-read = ap (half 4) after-kind ∙ numeral-read sixteen 16 (λ i. Bitmap i) 4 (bits / 2 ^ 64) _ (shr-below bits 64 64 (s .small))
+  high-read = ap (half 4) after-mti ∙ numeral-read sixteen 16 (λ i. Bitmap i) 4 (bits / 2 ^ 64) _ (shr-below bits 64 64 (s .small))
 
   low-read : marked bits 1 ≡ true → half 20 (drop 20 whole) ≡ Ok (bits % 2 ^ 64)
   low-read m =
@@ -100,19 +100,19 @@ module _ (kind bits : ℕ) (rest : List ℕ) (h : kind ≤ 9999) (s : Sound bits
   bits-read = ap (λ r. after r (λ high. with-second high whole)) high-read ∙ second-read
 
   pub after-head : drop (body bits) whole ≡ rest
-  after-head = drop-at (head kind bits) rest (body bits) (length-head kind bits)
+  after-head = drop-at (head mti bits) rest (body bits) (length-head mti bits)
 
 -- read, then written
-pub record Headed (bs : List ℕ) (kind bits : ℕ) : Type 0 where
-  pub four : kind ≤ 9999
+pub record Headed (bs : List ℕ) (mti bits : ℕ) : Type 0 where
+  pub four : mti ≤ 9999
   pub small : bits < 2 ^ 128
   pub single : marked bits 1 ≡ false → bits % 2 ^ 64 ≡ 0
-  pub whole : head kind bits ++ drop (body bits) bs ≡ bs
+  pub whole : head mti bits ++ drop (body bits) bs ≡ bs
 
 -- one bitmap
-single-half : (bs : List ℕ) (kind bits high : ℕ) → kind < 10000 → high < 2 ^ 64 → joined high 0 ≡ bits → marked (joined high 0) 1 ≡ false → spelled 10 4 kind ++ (spelled 16 16 high ++ drop 20 bs) ≡ bs → Headed bs kind bits
+single-half : (bs : List ℕ) (mti bits high : ℕ) → mti < 10000 → high < 2 ^ 64 → joined high 0 ≡ bits → marked (joined high 0) 1 ≡ false → spelled 10 4 mti ++ (spelled 16 16 high ++ drop 20 bs) ≡ bs → Headed bs mti bits
 unfolding head
-single-half bs kind bits high k h e m front =
+single-half bs mti bits high k h e m front =
     let is-high : bits / 2 ^ 64 ≡ high = ap (λ x. x / 2 ^ 64) (sym e) ∙ joined-high high 0 (omega arith) in
     let is-low : bits % 2 ^ 64 ≡ 0 = ap (λ x. x % 2 ^ 64) (sym e) ∙ joined-low high 0 (omega arith) in
     let off : marked bits 1 ≡ false = ap (λ x. marked x 1) (sym e) ∙ m in
@@ -122,15 +122,15 @@ single-half bs kind bits high k h e m front =
       small = omega arith;
       single = λ _. is-low;
       whole =
-          append-assoc (spelled 10 4 kind) (spelled 16 16 (bits / 2 ^ 64) ++ low-text bits) (drop (body bits) bs)
-          ∙ (λ j. spelled 10 4 kind ++ ((spelled 16 16 (is-high j) ++ cond-false (marked bits 1) (spelled 16 16 (bits % 2 ^ 64)) [] off j) ++ drop (short j) bs))
-          ∙ ap (λ l. spelled 10 4 kind ++ (l ++ drop 20 bs)) (append-nil (spelled 16 16 high)) ∙ front;
+          append-assoc (spelled 10 4 mti) (spelled 16 16 (bits / 2 ^ 64) ++ low-text bits) (drop (body bits) bs)
+          ∙ (λ j. spelled 10 4 mti ++ ((spelled 16 16 (is-high j) ++ cond-false (marked bits 1) (spelled 16 16 (bits % 2 ^ 64)) [] off j) ++ drop (short j) bs))
+          ∙ ap (λ l. spelled 10 4 mti ++ (l ++ drop 20 bs)) (append-nil (spelled 16 16 high)) ∙ front;
     }
 
 -- two bitmaps
-double : (bs : List ℕ) (kind bits high low : ℕ) → kind < 10000 → high < 2 ^ 64 → low < 2 ^ 64 → joined high low ≡ bits → marked (joined high 0) 1 ≡ true → spelled 10 4 kind ++ (spelled 16 16 high ++ drop 20 bs) ≡ bs → spelled 16 16 low ++ drop 16 (drop 20 bs) ≡ drop 20 bs → Headed bs kind bits
+double : (bs : List ℕ) (mti bits high low : ℕ) → mti < 10000 → high < 2 ^ 64 → low < 2 ^ 64 → joined high low ≡ bits → marked (joined high 0) 1 ≡ true → spelled 10 4 mti ++ (spelled 16 16 high ++ drop 20 bs) ≡ bs → spelled 16 16 low ++ drop 16 (drop 20 bs) ≡ drop 20 bs → Headed bs mti bits
 unfolding head
-double bs kind bits high low k h l e m front back =
+double bs mti bits high low k h l e m front back =
     let is-high : bits / 2 ^ 64 ≡ high = ap (λ x. x / 2 ^ 64) (sym e) ∙ joined-high high low l in
     let is-low : bits % 2 ^ 64 ≡ low = ap (λ x. x % 2 ^ 64) (sym e) ∙ joined-low high low l in
     let on : marked bits 1 ≡ true = sym (first-bit bits) ∙ ap (λ x. marked (joined x 0) 1) is-high ∙ m in
@@ -140,26 +140,26 @@ double bs kind bits high low k h l e m front back =
       small = omega arith;
       single = λ off. absurd (both-ways _ off on);
       whole =
-          append-assoc (spelled 10 4 kind) (spelled 16 16 (bits / 2 ^ 64) ++ low-text bits) (drop (body bits) bs)
-          ∙ (λ j. spelled 10 4 kind ++ ((spelled 16 16 (is-high j) ++ (cond-true (marked bits 1) (spelled 16 16 (bits % 2 ^ 64)) [] on ∙ ap (spelled 16 16) is-low) j) ++ drop (long j) bs))
-          ∙ ap (λ x. spelled 10 4 kind ++ x) (append-assoc (spelled 16 16 high) (spelled 16 16 low) (drop 36 bs))
-          ∙ ap (λ x. spelled 10 4 kind ++ (spelled 16 16 high ++ x)) (ap (λ x. spelled 16 16 low ++ x) (sym (drop-drop 16 20 bs)) ∙ back)
+          append-assoc (spelled 10 4 mti) (spelled 16 16 (bits / 2 ^ 64) ++ low-text bits) (drop (body bits) bs)
+          ∙ (λ j. spelled 10 4 mti ++ ((spelled 16 16 (is-high j) ++ (cond-true (marked bits 1) (spelled 16 16 (bits % 2 ^ 64)) [] on ∙ ap (spelled 16 16) is-low) j) ++ drop (long j) bs))
+          ∙ ap (λ x. spelled 10 4 mti ++ x) (append-assoc (spelled 16 16 high) (spelled 16 16 low) (drop 36 bs))
+          ∙ ap (λ x. spelled 10 4 mti ++ (spelled 16 16 high ++ x)) (ap (λ x. spelled 16 16 low ++ x) (sym (drop-drop 16 20 bs)) ∙ back)
           ∙ front;
     }
 
-pub headed : (bs : List ℕ) (kind bits : ℕ) → kind-of bs ≡ Ok kind → bits-of bs ≡ Ok bits → Headed bs kind bits
-headed bs kind bits k b =
-    let t = numeral-written ten 4 (λ i. Kind i) 0 kind bs k in
+pub headed : (bs : List ℕ) (mti bits : ℕ) → mti-of bs ≡ Ok mti → bits-of bs ≡ Ok bits → Headed bs mti bits
+headed bs mti bits k b =
+    let t = numeral-written ten 4 (λ i. Mti i) 0 mti bs k in
     let a = after-is-ok (half 4 (drop 4 bs)) (λ high. with-second high bs) bits b in
     let high = a .0 in
     let u = numeral-written sixteen 16 (λ i. Bitmap i) 4 high (drop 4 bs) (a .1) in
     let over : drop 16 (drop 4 bs) ≡ drop 20 bs = drop-drop 16 4 bs in
-    let front : spelled 10 4 kind ++ (spelled 16 16 high ++ drop 20 bs) ≡ bs = ap (λ l. spelled 10 4 kind ++ (spelled 16 16 high ++ l)) (sym over) ∙ ap (λ l. spelled 10 4 kind ++ l) (u .whole) ∙ t .whole in
+    let front : spelled 10 4 mti ++ (spelled 16 16 high ++ drop 20 bs) ≡ bs = ap (λ l. spelled 10 4 mti ++ (spelled 16 16 high ++ l)) (sym over) ∙ ap (λ l. spelled 10 4 mti ++ l) (u .whole) ∙ t .whole in
     ⊎-elim
     (λ m.
     let c = after-is-ok (half 20 (drop 20 bs)) (λ low. Ok (joined high low)) bits (sym (cond-true _ _ _ m) ∙ a .2) in
     let low = c .0 in
     let v = numeral-written sixteen 16 (λ i. Bitmap i) 20 low (drop 20 bs) (c .1) in
-    double bs kind bits high low (t .small) (u .small) (v .small) (same-ok (c .2)) m (front) (v .whole))
-    (λ m. single-half bs kind bits high (t .small) (u .small) (same-ok (sym (cond-false _ _ _ m) ∙ a .2)) m front)
+    double bs mti bits high low (t .small) (u .small) (v .small) (same-ok (c .2)) m (front) (v .whole))
+    (λ m. single-half bs mti bits high (t .small) (u .small) (same-ok (sym (cond-false _ _ _ m) ∙ a .2)) m front)
     (cases-bool (marked (joined high 0) 1))

@@ -28,37 +28,37 @@ tail true k h low a b c = omega arith
 tail false k h low a b c = omega arith
 
 -- the type and the bitmaps are as long as they have to be
-pub length-head : (kind bits : ℕ) → length (head kind bits) ≡ body bits
+pub length-head : (mti bits : ℕ) → length (head mti bits) ≡ body bits
 unfolding head
-length-head kind bits =
+length-head mti bits =
     let low = cond (marked bits 1) (spelled 16 16 (bits % 2 ^ 64)) [] in
-    length-append (spelled 10 4 kind) (spelled 16 16 (bits / 2 ^ 64) ++ low)
-    ∙ ap (λ n. length (spelled 10 4 kind) + n) (length-append (spelled 16 16 (bits / 2 ^ 64)) low)
-    ∙ tail (marked bits 1) (length (spelled 10 4 kind)) (length (spelled 16 16 (bits / 2 ^ 64))) (spelled 16 16 (bits % 2 ^ 64)) (length-spelled 10 4 kind) (length-spelled 16 16 (bits / 2 ^ 64)) (length-spelled 16 16 (bits % 2 ^ 64))
+    length-append (spelled 10 4 mti) (spelled 16 16 (bits / 2 ^ 64) ++ low)
+    ∙ ap (λ n. length (spelled 10 4 mti) + n) (length-append (spelled 16 16 (bits / 2 ^ 64)) low)
+    ∙ tail (marked bits 1) (length (spelled 10 4 mti)) (length (spelled 16 16 (bits / 2 ^ 64))) (spelled 16 16 (bits % 2 ^ 64)) (length-spelled 10 4 mti) (length-spelled 16 16 (bits / 2 ^ 64)) (length-spelled 16 16 (bits % 2 ^ 64))
 
 -- the type and one bitmap, or two
-module _ (out : List ℕ) (kind bits : ℕ) (room : body bits ≤ length out) where
+module _ (out : List ℕ) (mti bits : ℕ) (room : body bits ≤ length out) where
   abbrev first-laid : List ℕ
-  first-laid = laid (laid out 0 (spelled 10 4 kind)) 4 (spelled 16 16 (bits / 2 ^ 64))
+  first-laid = laid (laid out 0 (spelled 10 4 mti)) 4 (spelled 16 16 (bits / 2 ^ 64))
 
-  first-two : 20 ≤ length out → first-laid ≡ laid out 0 (spelled 10 4 kind ++ spelled 16 16 (bits / 2 ^ 64))
-  first-two h = laid-next out 0 4 (spelled 10 4 kind) (spelled 16 16 (bits / 2 ^ 64)) (omega (arith, length-spelled 10 4 kind)) (omega (arith, length-spelled 16 16 (bits / 2 ^ 64)))
+  first-two : 20 ≤ length out → first-laid ≡ laid out 0 (spelled 10 4 mti ++ spelled 16 16 (bits / 2 ^ 64))
+  first-two h = laid-next out 0 4 (spelled 10 4 mti) (spelled 16 16 (bits / 2 ^ 64)) (omega (arith, length-spelled 10 4 mti)) (omega (arith, length-spelled 16 16 (bits / 2 ^ 64)))
 
-  pub head-single : marked bits 1 ≡ false → first-laid ≡ laid out 0 (head kind bits)
+  pub head-single : marked bits 1 ≡ false → first-laid ≡ laid out 0 (head mti bits)
   unfolding head
   head-single m =
       let short : body bits ≡ 20 = cond-false (marked bits 1) 36 20 m in
       first-two (omega arith)
-      ∙ ap (λ l. laid out 0 (spelled 10 4 kind ++ l)) (sym (append-nil (spelled 16 16 (bits / 2 ^ 64))))
-      ∙ ap (λ l. laid out 0 (spelled 10 4 kind ++ (spelled 16 16 (bits / 2 ^ 64) ++ l))) (sym (cond-false (marked bits 1) (spelled 16 16 (bits % 2 ^ 64)) [] m))
+      ∙ ap (λ l. laid out 0 (spelled 10 4 mti ++ l)) (sym (append-nil (spelled 16 16 (bits / 2 ^ 64))))
+      ∙ ap (λ l. laid out 0 (spelled 10 4 mti ++ (spelled 16 16 (bits / 2 ^ 64) ++ l))) (sym (cond-false (marked bits 1) (spelled 16 16 (bits % 2 ^ 64)) [] m))
 
-  pub head-double : marked bits 1 ≡ true → laid first-laid 20 (spelled 16 16 (bits % 2 ^ 64)) ≡ laid out 0 (head kind bits)
+  pub head-double : marked bits 1 ≡ true → laid first-laid 20 (spelled 16 16 (bits % 2 ^ 64)) ≡ laid out 0 (head mti bits)
   unfolding head
   head-double m =
       let long : body bits ≡ 36 = cond-true (marked bits 1) 36 20 m in
-      let k = length-spelled 10 4 kind in
+      let k = length-spelled 10 4 mti in
       let h = length-spelled 16 16 (bits / 2 ^ 64) in
       ap (λ o. laid o 20 (spelled 16 16 (bits % 2 ^ 64))) (first-two (omega arith))
-      ∙ laid-next out 0 20 (spelled 10 4 kind ++ spelled 16 16 (bits / 2 ^ 64)) (spelled 16 16 (bits % 2 ^ 64)) (omega (arith, length-append (spelled 10 4 kind) (spelled 16 16 (bits / 2 ^ 64)))) (omega (arith, length-spelled 16 16 (bits % 2 ^ 64)))
-      ∙ ap (laid out 0) (append-assoc (spelled 10 4 kind) (spelled 16 16 (bits / 2 ^ 64)) (spelled 16 16 (bits % 2 ^ 64)))
-      ∙ ap (λ l. laid out 0 (spelled 10 4 kind ++ (spelled 16 16 (bits / 2 ^ 64) ++ l))) (sym (cond-true (marked bits 1) (spelled 16 16 (bits % 2 ^ 64)) [] m))
+      ∙ laid-next out 0 20 (spelled 10 4 mti ++ spelled 16 16 (bits / 2 ^ 64)) (spelled 16 16 (bits % 2 ^ 64)) (omega (arith, length-append (spelled 10 4 mti) (spelled 16 16 (bits / 2 ^ 64)))) (omega (arith, length-spelled 16 16 (bits % 2 ^ 64)))
+      ∙ ap (laid out 0) (append-assoc (spelled 10 4 mti) (spelled 16 16 (bits / 2 ^ 64)) (spelled 16 16 (bits % 2 ^ 64)))
+      ∙ ap (λ l. laid out 0 (spelled 10 4 mti ++ (spelled 16 16 (bits / 2 ^ 64) ++ l))) (sym (cond-true (marked bits 1) (spelled 16 16 (bits % 2 ^ 64)) [] m))

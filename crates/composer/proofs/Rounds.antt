@@ -15,7 +15,7 @@ use Rattle.std.specs.shelf.Lists.{All}
 use Rattle.std.proofs.shelf.Lists.{take-at, length-append}
 use Rattle.std.proofs.shelf.Tests.{cond-true, cond-false, cases-bool, cases-eq, eqb-true, leb-true, or-cases, and-from, and-right, and-left, and-parts, both-ways}
 use Rattle.elements.specs.declared.fault.MessageFault.{MessageFault}
-use Rattle.elements.specs.declared.fault.MessageFault.the-variants.{Kind, Unknown, Room}
+use Rattle.elements.specs.declared.fault.MessageFault.the-variants.{Mti, Unknown, Room}
 use Rattle.iso8583.specs.declared.found.Found.{Found}
 use Rattle.iso8583.specs.Bitmap.{marked, first}
 use Rattle.composer.specs.Contents.{Item, item-of, content, content-of, Composed, on, all-put, composed}
@@ -27,7 +27,7 @@ use Rattle.composer.specs.Writing.{State, marks, bits-from, listed, outside, a
 use Rattle.composer.proofs.Bitmaps.{Sound, sound-marks, bits-below, bits-at, marks-else, marks-one, one-marked, listed-small}
 use Rattle.composer.proofs.Bodies.{text, Filled, Ran, ran, runs, on-ok, Taken-up, takes-up, Put-down, puts-down}
 use Rattle.iso8583.proofs.Firsts.{first-fails}
-use Rattle.composer.proofs.Heads.{kind-read, bits-read, after-head, Headed, headed}
+use Rattle.composer.proofs.Heads.{mti-read, bits-read, after-head, Headed, headed}
 use Rattle.composer.proofs.Lays.{length-head, laid-next, length-laid}
 use Rattle.composer.proofs.Lows.{some-low, none-low}
 use Rattle.iso8583.proofs.Outcomes.{same-ok, chosen-ok, unless-ok, after-is-ok}
@@ -73,44 +73,44 @@ module _ (ns : List ℕ) (bits : ℕ) (small : All (λ n. n < 256) ns) (a : anno
   }
 
 -- a start that was made
-pub record Begun (out : List ℕ) (kind : ℕ) (ns : List ℕ) (s : State) : Type 0 where
-  pub four : kind ≤ 9999
+pub record Begun (out : List ℕ) (mti : ℕ) (ns : List ℕ) (s : State) : Type 0 where
+  pub four : mti ≤ 9999
   pub bits : ℕ
   pub set : announced ns ≡ Ok bits
-  pub room : length (head kind bits) ≤ length out
-  pub same : grown out 0 (head kind bits) (chosen table bits) ≡ s
+  pub room : length (head mti bits) ≤ length out
+  pub same : grown out 0 (head mti bits) (chosen table bits) ≡ s
 
-begins : (out : List ℕ) (kind : ℕ) (ns : List ℕ) (s : State) → starting out kind ns ≡ Ok s → Begun out kind ns s
-begins out kind ns s h =
-    let a = chosen-ok (leb kind 9999) (after (announced ns) (begun out kind)) (Kind 0) s h in
-    let b = after-is-ok (announced ns) (begun out kind) s (a .1) in
-    let c = chosen-ok (leb (length (head kind (b .0))) (length out)) (Ok (grown out 0 (head kind (b .0)) (chosen table (b .0)))) (Room 0) s (b .2) in
-    record { four = leb-true kind 9999 (a .0); bits = b .0; set = b .1; room = leb-true _ (length out) (c .0); same = same-ok (c .1) }
+begins : (out : List ℕ) (mti : ℕ) (ns : List ℕ) (s : State) → starting out mti ns ≡ Ok s → Begun out mti ns s
+begins out mti ns s h =
+    let a = chosen-ok (leb mti 9999) (after (announced ns) (begun out mti)) (Mti 0) s h in
+    let b = after-is-ok (announced ns) (begun out mti) s (a .1) in
+    let c = chosen-ok (leb (length (head mti (b .0))) (length out)) (Ok (grown out 0 (head mti (b .0)) (chosen table (b .0)))) (Room 0) s (b .2) in
+    record { four = leb-true mti 9999 (a .0); bits = b .0; set = b .1; room = leb-true _ (length out) (c .0); same = same-ok (c .1) }
 
 -- a message of a type, a sound bitmap and elements that fit it says just these
-says : (kind bits : ℕ) (is : List Item) → kind ≤ 9999 → Sound bits → Filled (chosen table bits) is → content-of (head kind bits ++ text (chosen table bits) is) ≡ Ok (content kind is)
-says kind bits is four sound filled =
+says : (mti bits : ℕ) (is : List Item) → mti ≤ 9999 → Sound bits → Filled (chosen table bits) is → content-of (head mti bits ++ text (chosen table bits) is) ≡ Ok (content mti is)
+says mti bits is four sound filled =
     let t = text (chosen table bits) is in
-    let w = head kind bits ++ t in
-    let u = takes-up table 1 bits (head kind bits) is proper-table filled in
-    let found : elements table bits (body bits) (drop (body bits) w) ≡ Ok (u .found) = (λ j. elements table bits (sym (length-head kind bits) j) (after-head kind bits t four sound j)) ∙ u .all in
-    let r = read-whole w kind bits bits (sym (kind-read kind bits t four sound)) (sym (bits-read kind bits t four sound)) (sym (sound-marks bits sound)) (u .found) found in
-    ap (λ p. after p (λ q. Ok (content (q .kind) (map (item-of w) (q .elements))))) r ∙ ap (λ x. Ok (content kind x)) (u .same)
+    let w = head mti bits ++ t in
+    let u = takes-up table 1 bits (head mti bits) is proper-table filled in
+    let found : elements table bits (body bits) (drop (body bits) w) ≡ Ok (u .found) = (λ j. elements table bits (sym (length-head mti bits) j) (after-head mti bits t four sound j)) ∙ u .all in
+    let r = read-whole w mti bits bits (sym (mti-read mti bits t four sound)) (sym (bits-read mti bits t four sound)) (sym (sound-marks bits sound)) (u .found) found in
+    ap (λ p. after p (λ q. Ok (content (q .mti) (map (item-of w) (q .elements))))) r ∙ ap (λ x. Ok (content mti x)) (u .same)
 
-pub read-again : (out : List ℕ) (kind : ℕ) (is : List Item) (n : ℕ) → All (λ m. m < 256) (map (λ i. i .number) is) → composed out kind is .answer ≡ Ok n → content-of (take n (composed out kind is .out)) ≡ Ok (content kind is)
-read-again out kind is n small h =
-    let a = on-ok (starting out kind (map (λ i. i .number) is)) out (λ s. all-put s is) n h in
-    let b = begins out kind (map (λ i. i .number) is) (a .0) (a .1) in
-    let hd = head kind (b .bits) in
+pub read-again : (out : List ℕ) (mti : ℕ) (is : List Item) (n : ℕ) → All (λ m. m < 256) (map (λ i. i .number) is) → composed out mti is .answer ≡ Ok n → content-of (take n (composed out mti is .out)) ≡ Ok (content mti is)
+read-again out mti is n small h =
+    let a = on-ok (starting out mti (map (λ i. i .number) is)) out (λ s. all-put s is) n h in
+    let b = begins out mti (map (λ i. i .number) is) (a .0) (a .1) in
+    let hd = head mti (b .bits) in
     let rows = chosen table (b .bits) in
     let t = text rows is in
-    let goes : composed out kind is ≡ all-put (grown out 0 hd rows) is = a .2 ∙ ap (λ s. all-put s is) (sym (b .same)) in
+    let goes : composed out mti is ≡ all-put (grown out 0 hd rows) is = a .2 ∙ ap (λ s. all-put s is) (sym (b .same)) in
     let keeps = length-laid out 0 hd (omega (arith, b .room)) in
     let r = ran rows is (laid out 0 hd) (0 + length hd) n (omega (arith, b .room)) (sym (ap (λ c. c .answer) goes) ∙ h) in
-    let whole : composed out kind is .out ≡ laid out 0 (hd ++ t) = ap (λ c. c .out) goes ∙ r .written ∙ laid-next out 0 (0 + length hd) hd t refl (omega (arith, r .long, r .room)) in
+    let whole : composed out mti is .out ≡ laid out 0 (hd ++ t) = ap (λ c. c .out) goes ∙ r .written ∙ laid-next out 0 (0 + length hd) hd t refl (omega (arith, r .long, r .room)) in
     let long : length (hd ++ t) ≡ n = omega (arith, r .long, length-append hd t) in
     let sound = announced-sound (map (λ i. i .number) is) (b .bits) small (b .set) in
-    ap content-of (ap (take n) whole ∙ take-at (hd ++ t) (drop (0 + length (hd ++ t)) out) n long) ∙ says kind (b .bits) is (b .four) sound (r .filled)
+    ap content-of (ap (take n) whole ∙ take-at (hd ++ t) (drop (0 + length (hd ++ t)) out) n long) ∙ says mti (b .bits) is (b .four) sound (r .filled)
 
 -- the numbers of elements that were read
 listed-found : (bs : List ℕ) (es : List Found) (k : ℕ) → listed (map (λ i. i .number) (map (item-of bs) es)) k ≡ isSome (found-of es k)
@@ -122,15 +122,15 @@ listed-found bs (e ∷ es) k =
     (cases-bool (eqb (e .element) k))
 
 -- a message that was read
-module _ (bs : List ℕ) (kind bits : ℕ) (es : List Found) (w : Whole bs kind bits es) where
+module _ (bs : List ℕ) (mti bits : ℕ) (es : List Found) (w : Whole bs mti bits es) where
   abbrev its : List Item
   its = map (item-of bs) es
 
   abbrev nums : List ℕ
   nums = map (λ i. i .number) its
 
-  hd : Headed bs kind bits
-  hd = headed bs kind bits (w .typed) (w .mapped)
+  hd : Headed bs mti bits
+  hd = headed bs mti bits (w .typed) (w .mapped)
 
   pub read-sound : Sound bits
   read-sound = record {
@@ -173,7 +173,7 @@ module _ (bs : List ℕ) (kind bits : ℕ) (es : List Found) (w : Whole bs kind 
 
   -- its elements are the text behind its head
   abbrev pre : List ℕ
-  pre = head kind bits
+  pre = head mti bits
 
   abbrev cs : List ℕ
   cs = drop (body bits) bs
@@ -181,24 +181,24 @@ module _ (bs : List ℕ) (kind bits : ℕ) (es : List Found) (w : Whole bs kind 
   down : Put-down table bits cs its
   down =
       subst (λ l. Put-down table bits cs (map (item-of l) es)) (hd .whole)
-      (puts-down table bits pre cs es (ap (λ n. elements table bits n cs) (length-head kind bits) ∙ w .found))
+      (puts-down table bits pre cs es (ap (λ n. elements table bits n cs) (length-head mti bits) ∙ w .found))
 
-  pub read-composed : (out : List ℕ) → length bs ≤ length out → composed out kind its ≡ record { answer = Ok (length bs); out = laid out 0 bs }
+  pub read-composed : (out : List ℕ) → length bs ≤ length out → composed out mti its ≡ record { answer = Ok (length bs); out = laid out 0 bs }
   read-composed out room =
       let rows = chosen table bits in
-      let long : body bits + length cs ≡ length bs = omega (arith, length-head kind bits, sym (length-append pre cs) ∙ ap length (hd .whole)) in
+      let long : body bits + length cs ≡ length bs = omega (arith, length-head mti bits, sym (length-append pre cs) ∙ ap length (hd .whole)) in
       let tl : length (text rows its) ≡ length cs = ap length (down .same) in
-      let keeps = length-laid out 0 pre (omega (arith, length-head kind bits)) in
-      let at : body bits ≡ 0 + length pre = omega (arith, length-head kind bits) in
+      let keeps = length-laid out 0 pre (omega (arith, length-head mti bits)) in
+      let at : body bits ≡ 0 + length pre = omega (arith, length-head mti bits) in
       let answer : body bits + length (text rows its) ≡ length bs = omega arith in
-      ap (λ r. on r out (λ s. all-put s its)) (started out kind nums (hd .four) bits (sym read-announced) (omega arith))
+      ap (λ r. on r out (λ s. all-put s its)) (started out mti nums (hd .four) bits (sym read-announced) (omega arith))
       ∙ runs rows its (laid out 0 pre) (body bits) (down .filled) (omega arith)
       ∙ (λ j. record { answer = Ok (answer j); out = (laid-next out 0 (body bits) pre (text rows its) at (omega arith) ∙ ap (λ l. laid out 0 (pre ++ l)) (down .same) ∙ ap (laid out 0) (hd .whole)) j })
 
-pub yielded-again : (out : List ℕ) (kind : ℕ) (is : List Item) (bs : List ℕ) → content-of bs ≡ Ok (content kind is) → length bs ≤ length out → composed out kind is ≡ record { answer = Ok (length bs); out = laid out 0 bs }
-yielded-again out kind is bs h room =
-    let a = after-is-ok (reading bs) (λ p. Ok (content (p .kind) (map (item-of bs) (p .elements)))) (content kind is) h in
+pub yielded-again : (out : List ℕ) (mti : ℕ) (is : List Item) (bs : List ℕ) → content-of bs ≡ Ok (content mti is) → length bs ≤ length out → composed out mti is ≡ record { answer = Ok (length bs); out = laid out 0 bs }
+yielded-again out mti is bs h room =
+    let a = after-is-ok (reading bs) (λ p. Ok (content (p .mti) (map (item-of bs) (p .elements)))) (content mti is) h in
     let p = a .0 in
     let same = same-ok (a .2) in
-    let w = taken-apart bs (p .kind) (p .bits) (p .elements) (a .1) in
-    (λ j. composed out (sym (ap (λ c. c .kind) same) j) (sym (ap (λ c. c .items) same) j)) ∙ read-composed bs (p .kind) (p .bits) (p .elements) w out room
+    let w = taken-apart bs (p .mti) (p .bits) (p .elements) (a .1) in
+    (λ j. composed out (sym (ap (λ c. c .mti) same) j) (sym (ap (λ c. c .items) same) j)) ∙ read-composed bs (p .mti) (p .bits) (p .elements) w out room

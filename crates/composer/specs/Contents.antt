@@ -18,11 +18,11 @@ pub record Item : Type 0 where
 
 -- a message by its type and its elements
 pub record Content : Type 0 where
-  pub kind : ℕ
+  pub mti : ℕ
   pub items : List Item
 
 abbrev pub content : ℕ → List Item → Content
-content kind items = record { kind = kind; items = items }
+content mti items = record { mti = mti; items = items }
 
 -- an element that was found in bytes
 abbrev pub item-of : List ℕ → Found → Item
@@ -30,7 +30,7 @@ item-of bs e = record { number = e .element; chars = between (e .start) (e .end)
 
 -- what bytes say, if they are a message
 abbrev pub content-of : List ℕ → Result Content MessageFault
-content-of bs = after (reading bs) (λ p. Ok (content (p .kind) (map (item-of bs) (p .elements))))
+content-of bs = after (reading bs) (λ p. Ok (content (p .mti) (map (item-of bs) (p .elements))))
 
 -- elements as a caller hands them over
 abbrev pub item : Element → Item
@@ -53,4 +53,4 @@ all-put s (i ∷ is) = on (putting s (i .number) (i .chars)) (s .out) (λ t. all
 
 -- the start, each element, the end
 abbrev pub composed : List ℕ → ℕ → List Item → Composed
-composed out kind is = on (starting out kind (map (λ i. i .number) is)) out (λ s. all-put s is)
+composed out mti is = on (starting out mti (map (λ i. i .number) is)) out (λ s. all-put s is)

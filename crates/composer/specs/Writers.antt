@@ -9,17 +9,22 @@ use Rattle.std.specs.declared.result.Result.{Result}
 use Rattle.std.specs.declared.result.Result.the-variants.{Ok, Err}
 use Rattle.elements.specs.declared.fault.MessageFault.{MessageFault}
 use Rattle.composer.specs.declared.writer.Writer.{Writer}
+use Rattle.elements.specs.declared.table.Row.{Row}
 use Rattle.elements.specs.Table.{table}
 use Rattle.composer.specs.Writing.{State, laid, chosen, starting, putting}
 
+-- the elements that are still to come
+abbrev pub rest-of : Writer → List Row
+rest-of w = chosen (drop (w .row) table) (w .bitmap)
+
 -- a writer with its buffer
 abbrev pub state-of : List ℕ → Writer → State
-state-of out w = record { out = out; used = w .used; rest = chosen (drop (w .row) table) (w .bitmap) }
+state-of out w = record { out = out; used = w .used; rest = rest-of w }
 
 -- a start, or a refusal that leaves the buffer as it was
 abbrev pub Started : List ℕ → ℕ → List ℕ → Result Writer MessageFault → List ℕ → Type 0
-Started out kind es (Ok w) out′ = starting out kind es ≡ Ok (state-of out′ w)
-Started out kind es (Err f) out′ = (starting out kind es ≡ Err f) × (out′ ≡ out)
+Started out mti es (Ok w) out′ = starting out mti es ≡ Ok (state-of out′ w)
+Started out mti es (Err f) out′ = (starting out mti es ≡ Err f) × (out′ ≡ out)
 
 -- bytes laid into a buffer from a place on, and where they end; or none where they do not fit
 abbrev pub Placed : List ℕ → ℕ → List ℕ → Option ℕ → List ℕ → Type 0

@@ -9,7 +9,7 @@ use Rattle.std.specs.declared.result.Result.the-variants.{Ok, Err}
 use Rattle.elements.specs.declared.fault.ElementFault.{ElementFault}
 use Rattle.elements.specs.declared.fault.ElementFault.the-variants.{Length, Character}
 use Rattle.elements.specs.declared.fault.MessageFault.{MessageFault}
-use Rattle.elements.specs.declared.fault.MessageFault.the-variants.{Kind, Unknown, Order, Room}
+use Rattle.elements.specs.declared.fault.MessageFault.the-variants.{Mti, Unknown, Order, Room}
 use Rattle.elements.specs.declared.table.Row.{Row}
 use Rattle.elements.specs.Fields.{spelled, field}
 use Rattle.elements.specs.Table.{table, known, admits, fits}
@@ -49,8 +49,8 @@ announced es = unless (first (outside es) 0 256) (λ k. Unknown k 0) (bits-from 
 
 -- the type, the first bitmap, and the second if bit 1 is set
 unfoldable pub head : ℕ → ℕ → List ℕ
-head kind bits =
-    spelled 10 4 kind ++ (spelled 16 16 (bits / 2 ^ 64) ++ cond (marked bits 1) (spelled 16 16 (bits % 2 ^ 64)) [])
+head mti bits =
+    spelled 10 4 mti ++ (spelled 16 16 (bits / 2 ^ 64) ++ cond (marked bits 1) (spelled 16 16 (bits % 2 ^ 64)) [])
 
 -- a buffer with new bytes from a place on; the others are as they were
 abbrev pub laid : List ℕ → ℕ → List ℕ → List ℕ
@@ -72,12 +72,12 @@ abbrev pub grown : List ℕ → ℕ → List ℕ → List Row → State
 grown out used new rest = record { out = laid out used new; used = used + length new; rest = rest }
 
 abbrev pub begun : List ℕ → ℕ → ℕ → Result State MessageFault
-begun out kind bits =
-    cond (leb (length (head kind bits)) (length out)) (Ok (grown out 0 (head kind bits) (chosen table bits))) (Err (Room 0))
+begun out mti bits =
+    cond (leb (length (head mti bits)) (length out)) (Ok (grown out 0 (head mti bits) (chosen table bits))) (Err (Room 0))
 
 -- the start: the type is four digits, the table has the elements, and type and bitmaps fit the buffer
 abbrev pub starting : List ℕ → ℕ → List ℕ → Result State MessageFault
-starting out kind es = cond (leb kind 9999) (after (announced es) (begun out kind)) (Err (Kind 0))
+starting out mti es = cond (leb mti 9999) (after (announced es) (begun out mti)) (Err (Mti 0))
 
 -- the element fits the buffer
 abbrev pub placing : List ℕ → ℕ → Row → List Row → List ℕ → Result State MessageFault

@@ -30,12 +30,12 @@ fn put_all(mut writer: Writer, out: &mut [u8], elements: &[Element]) -> Result<u
 }
 
 // Writes the message of a type with these elements at the front of a buffer, and answers its length.
-pub fn compose(out: &mut [u8], kind: u16, elements: &[Element]) -> Result<usize, MessageFault>
-    ensures steps { λ r. ⌜ Steps (composed (now (out .entry)) kind (items (now (elements .entry)))) r (now (out .exit)) ⌝ }
-    ensures read_again { λ r. ⌜ Read-again kind (items (now (elements .entry))) r (now (out .exit)) ⌝ }
-    ensures yielded_again { λ r. ⌜ Yielded-again (now (out .entry)) kind (items (now (elements .entry))) r (now (out .exit)) ⌝ }
+pub fn compose(out: &mut [u8], mti: u16, elements: &[Element]) -> Result<usize, MessageFault>
+    ensures steps { λ r. ⌜ Steps (composed (now (out .entry)) mti (items (now (elements .entry)))) r (now (out .exit)) ⌝ }
+    ensures read_again { λ r. ⌜ Read-again mti (items (now (elements .entry))) r (now (out .exit)) ⌝ }
+    ensures yielded_again { λ r. ⌜ Yielded-again (now (out .entry)) mti (items (now (elements .entry))) r (now (out .exit)) ⌝ }
 {
     let marks = mark_all(elements);
-    let writer = Writer::begin(out, kind, &marks)?;
+    let writer = Writer::begin(out, mti, &marks)?;
     put_all(writer, out, elements)
 }

@@ -26,15 +26,15 @@ pub(crate) fn spell_half(half: u64) -> [u8; 16]
 }
 
 // A type as four digits.
-pub(crate) fn spell_kind(kind: u16) -> [u8; 4]
-    requires { ⌜ kind ≤ 9999 ⌝ }
-    ensures { λ r. ⌜ r ≡ spelled 10 4 kind ⌝ }
+pub(crate) fn spell_mti(mti: u16) -> [u8; 4]
+    requires { ⌜ mti ≤ 9999 ⌝ }
+    ensures { λ r. ⌜ r ≡ spelled 10 4 mti ⌝ }
 {
     [
-        b'0' + (kind / 1000) as u8,
-        b'0' + (kind / 100 % 10) as u8,
-        b'0' + (kind / 10 % 10) as u8,
-        b'0' + (kind % 10) as u8,
+        b'0' + (mti / 1000) as u8,
+        b'0' + (mti / 100 % 10) as u8,
+        b'0' + (mti / 10 % 10) as u8,
+        b'0' + (mti % 10) as u8,
     ]
 }
 

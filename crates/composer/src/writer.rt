@@ -7,14 +7,14 @@ ghost use Rattle.std.specs.Options.{Cases as BySome};
 ghost use Rattle.composer.specs.Announced.{Announced};
 ghost use Rattle.iso8583.specs.Reading.{body};
 ghost use Rattle.elements.specs.Table.{table, blank};
-ghost use Rattle.composer.specs.Writers.{Started, Placed, Put};
+ghost use Rattle.composer.specs.Writers.{rest-of, Started, Placed, Put};
 ghost use Rattle.elements.specs.Fields.{field};
 ghost use Rattle.composer.specs.Writing.{head, laid, checked, chosen, ending};
 use crate::marks::Marks;
 use crate::spell::lay;
 use crate::spell::spell_half;
-use crate::spell::spell_kind;
 use crate::spell::spell_length;
+use crate::spell::spell_mti;
 use elements::fault::ElementFault;
 use elements::fault::MessageFault;
 use elements::fault::MessageFaultFromElement;
@@ -26,7 +26,7 @@ use iso8583::bitmap::is_marked;
 use iso8583::read::first_wrong;
 
 // A writer under way. The buffer is passed to each step. Rows of the table before `row` are done with.
-#[derive(Clone, Copy)]
+#[derive(Drop)]
 pub struct Writer {
     used: usize,
     bitmap: u128,
@@ -34,18 +34,18 @@ pub struct Writer {
 }
 
 // The type and the bitmaps.
-fn lay_head(out: &mut [u8], kind: u16, bitmap: u128)
-    requires { ⌜ kind ≤ 9999 ⌝ ∗ ⌜ body bitmap ≤ length (now out) ⌝ }
-    ensures { λ _. ⌜ now (out .exit) ≡ laid (now (out .entry)) 0 (head kind bitmap) ⌝ }
+fn lay_head(out: &mut [u8], mti: u16, bitmap: u128)
+    requires { ⌜ mti ≤ 9999 ⌝ ∗ ⌜ body bitmap ≤ length (now out) ⌝ }
+    ensures { λ _. ⌜ now (out .exit) ≡ laid (now (out .entry)) 0 (head mti bitmap) ⌝ }
 {
-    lay(out, 0, &spell_kind(kind));
+    lay(out, 0, &spell_mti(mti));
     lay(out, 4, &spell_half((bitmap >> 64) as u64));
     if is_marked(bitmap, 1) {
         lay(out, 20, &spell_half((bitmap & u128::from(u64::MAX)) as u64));
     }
 }
 
-// An element has a length and characters that the table allows.
+// Whether an element has a length and characters that the table allows.
 fn check(row: &Row, chars: &[u8]) -> Result<(), ElementFault>
     ensures { λ r. ⌜ r ≡ checked (now (row .entry)) (now (chars .entry)) ⌝ }
 {
@@ -79,18 +79,18 @@ fn lay_field(out: &mut [u8], at: usize, size: Length, chars: &[u8]) -> Option<us
 
 impl Writer {
     // Starts a message whose elements are marked already.
-    pub(crate) fn begin(out: &mut [u8], kind: u16, marks: &Marks) -> Result<Writer, MessageFault>
-        ensures { λ r. ⌜ ((es : List ℕ) → Announced es (now (marks .entry) .bitmap) (now (marks .entry) .stranger) → Started (now (out .entry)) kind es r (now (out .exit))) ⌝ }
+    pub(crate) fn begin(out: &mut [u8], mti: u16, marks: &Marks) -> Result<Writer, MessageFault>
+        ensures { λ r. ⌜ ((es : List ℕ) → Announced es (now (marks .entry) .bitmap) (now (marks .entry) .stranger) → Started (now (out .entry)) mti es r (now (out .exit))) ⌝ }
     {
-        if kind > 9999 {
-            return Err(MessageFault::Kind { place: 0 });
+        if mti > 9999 {
+            return Err(MessageFault::Mti { place: 0 });
         }
         let bitmap = marks.bitmap()?;
         let used = body(bitmap);
         if out.len() < used {
             return Err(MessageFault::Room { element: 0 });
         }
-        lay_head(out, kind, bitmap);
+        lay_head(out, mti, bitmap);
         Ok(Writer {
             used,
             bitmap,
@@ -99,19 +99,19 @@ impl Writer {
     }
 
     // Starts a message of a type with a set of elements: their order does not count, nor does how often one is named.
-    pub fn start(out: &mut [u8], kind: u16, elements: &[u8]) -> Result<Writer, MessageFault>
-        ensures { λ r. ⌜ Started (now (out .entry)) kind (now (elements .entry)) r (now (out .exit)) ⌝ }
+    pub fn start(out: &mut [u8], mti: u16, elements: &[u8]) -> Result<Writer, MessageFault>
+        ensures { λ r. ⌜ Started (now (out .entry)) mti (now (elements .entry)) r (now (out .exit)) ⌝ }
     {
         let mut marks = Marks::new();
         for element in elements {
             marks.add(*element);
         }
-        Writer::begin(out, kind, &marks)
+        Writer::begin(out, mti, &marks)
     }
 
     // The row of the next element announced.
     fn next(&self) -> Option<usize>
-        ensures { λ r. ⌜ BySome r (chosen (drop (now (self .entry) .row) table) (now (self .entry) .bitmap) ≡ []) (λ i. (i < length table) × (chosen (drop (now (self .entry) .row) table) (now (self .entry) .bitmap) ≡ getD table i blank ∷ chosen (drop (i + 1) table) (now (self .entry) .bitmap))) ⌝ }
+        ensures { λ r. ⌜ BySome r (rest-of (now (self .entry)) ≡ []) (λ i. (i < length table) × (rest-of (now (self .entry)) ≡ getD table i blank ∷ chosen (drop (i + 1) table) (now (self .entry) .bitmap))) ⌝ }
     {
         for (i, row) in rows().iter().enumerate() {
             if i >= self.row && is_marked(self.bitmap, row.element) {
@@ -142,8 +142,8 @@ impl Writer {
     }
 
     // Ends the message, and answers its length.
-    pub fn end(&self) -> Result<usize, MessageFault>
-        ensures { λ r. ⌜ r ≡ ending (now (self .entry) .used) (chosen (drop (now (self .entry) .row) table) (now (self .entry) .bitmap)) ⌝ }
+    pub fn end(self) -> Result<usize, MessageFault>
+        ensures { λ r. ⌜ r ≡ ending (self .used) (rest-of self) ⌝ }
     {
         match self.next() {
             Some(i) => Err(MessageFault::Order {

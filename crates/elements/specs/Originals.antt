@@ -23,7 +23,7 @@ pub record Written (ds : List ℕ) (from to n : ℕ) : Type 0 where
 abbrev pub parts : List ℕ → Original
 parts ds =
     record {
-      kind = value 10 (between 0 4 ds);
+      mti = value 10 (between 0 4 ds);
       trace = value 10 (between 4 10 ds);
       moment = value 10 (between 10 20 ds);
       acquirer = value 10 (between 20 31 ds);

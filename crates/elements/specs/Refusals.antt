@@ -4,19 +4,19 @@ use Rattle.elements.specs.declared.fault.Layer.{Layer}
 use Rattle.elements.specs.declared.fault.Layer.the-variants as layer
 use Rattle.elements.specs.declared.fault.Refusal.{Refusal}
 use Rattle.elements.specs.declared.fault.ElementFault.{ElementFault}
-use Rattle.elements.specs.declared.fault.ElementFault.the-variants.{Ends, Length, Character}
+use Rattle.elements.specs.declared.fault.ElementFault.the-variants.{Truncated, Length, Character}
 use Rattle.elements.specs.declared.fault.MessageFault.{MessageFault}
-use Rattle.elements.specs.declared.fault.MessageFault.the-variants.{Kind, Bitmap, Unknown, Empty, Element, Trailing, Order, Room}
+use Rattle.elements.specs.declared.fault.MessageFault.the-variants.{Mti, Bitmap, Unknown, Empty, Element, Trailing, Order, Room}
 
 abbrev pub told : ℕ → Layer → ℕ → ℕ → Refusal
 told number layer element place = record { number = number; layer = layer; element = element; place = place }
 
 abbrev pub refusal : MessageFault → Refusal
-refusal (Kind i) = told 3 layer.Message 0 i
+refusal (Mti i) = told 3 layer.Message 0 i
 refusal (Bitmap i) = told 4 layer.Message 0 i
 refusal (Unknown k i) = told 5 layer.Message k i
 refusal Empty = told 5 layer.Message 0 20
-refusal (Element (Ends k i)) = told 6 layer.Element k i
+refusal (Element (Truncated k i)) = told 6 layer.Element k i
 refusal (Element (Length k i)) = told 7 layer.Element k i
 refusal (Element (Character k i)) = told 8 layer.Element k i
 refusal (Trailing i) = told 9 layer.Message 0 i

@@ -25,7 +25,7 @@ pub struct Refusal {
 #[derive(Clone, Copy)]
 pub enum ElementFault {
     // The message ends inside the element.
-    Ends { element: u8, place: usize },
+    Truncated { element: u8, place: usize },
     // The length is not one that the element may have.
     Length { element: u8, place: usize },
     // A character does not fit the element's format.
@@ -36,7 +36,7 @@ pub enum ElementFault {
 #[derive(Clone, Copy)]
 pub enum MessageFault {
     // The type is short, or not four digits.
-    Kind { place: usize },
+    Mti { place: usize },
     // A bitmap is short, or has a character that is no hexadecimal digit.
     Bitmap { place: usize },
     // An element is marked that the table does not have.
@@ -66,7 +66,7 @@ impl ElementFault {
         ensures { λ r. ⌜ r ≡ refusal (MessageFault.Element (now (self .entry))) ⌝ }
     {
         let (number, element, place) = match *self {
-            ElementFault::Ends { element, place } => (6, element, place),
+            ElementFault::Truncated { element, place } => (6, element, place),
             ElementFault::Length { element, place } => (7, element, place),
             ElementFault::Character { element, place } => (8, element, place),
         };
@@ -85,7 +85,7 @@ impl MessageFault {
     {
         let (number, element, place) = match *self {
             MessageFault::Element(fault) => return fault.refusal(),
-            MessageFault::Kind { place } => (3, 0, place),
+            MessageFault::Mti { place } => (3, 0, place),
             MessageFault::Bitmap { place } => (4, 0, place),
             MessageFault::Unknown { element, place } => (5, element, place),
             MessageFault::Empty => (5, 0, 20),

@@ -15,7 +15,7 @@ const DIGITS: usize = 42;
 #[derive(Clone, Copy)]
 pub struct Original {
     // The message's type: 4 digits.
-    pub kind: u16,
+    pub mti: u16,
     // Its trace number: 6 digits.
     pub trace: u32,
     // When it was sent: 10 digits, whether or not they are a moment.
@@ -43,13 +43,13 @@ impl Original {
         if digits.len() != DIGITS {
             return None;
         }
-        let kind = part(digits, 0, 4)?;
+        let mti = part(digits, 0, 4)?;
         let trace = part(digits, 4, 10)?;
         let moment = part(digits, 10, 20)?;
         let acquirer = part(digits, 20, 31)?;
         let forwarder = part(digits, 31, 42)?;
         Some(Original {
-            kind: kind as u16,
+            mti: mti as u16,
             trace: trace as u32,
             moment,
             acquirer,
@@ -68,7 +68,7 @@ mod tests {
         let original = Original::read(b"020000000101051015000000000011100000000000").ok_or(
             "refused",
         )?;
-        check_eq(original.kind, 200)?;
+        check_eq(original.mti, 200)?;
         check_eq(original.trace, 1)?;
         check_eq(original.moment, 105_101_500)?;
         check_eq(original.acquirer, 111)?;

@@ -12,7 +12,7 @@ use Rattle.std.specs.declared.result.Result.the-variants.{Ok, Err}
 use Rattle.std.proofs.shelf.Lists.{take-append-drop, length-take-le, append-assoc, length-append}
 use Rattle.std.proofs.shelf.Tests.{leb-true, le-leb, eq-eqb, eqb-true, and-parts, cond-true}
 use Rattle.elements.specs.declared.fault.ElementFault.{ElementFault}
-use Rattle.elements.specs.declared.fault.ElementFault.the-variants.{Ends, Character}
+use Rattle.elements.specs.declared.fault.ElementFault.the-variants.{Truncated, Character}
 use Rattle.iso8583.specs.declared.found.Found.{Found}
 use Rattle.elements.specs.declared.table.Length.{Length}
 use Rattle.elements.specs.declared.table.Length.the-variants.{Fixed, UpTo}

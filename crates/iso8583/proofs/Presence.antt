@@ -19,30 +19,30 @@ use Rattle.iso8583.specs.declared.found.Found.{Found}
 use Rattle.elements.specs.declared.table.Row.{Row}
 use Rattle.iso8583.specs.Bitmap.{marked, first, strange}
 use Rattle.iso8583.specs.Messages.{found-of}
-use Rattle.iso8583.specs.Reading.{after, unless, kind-of, bits-of, marks-of, marked-at, body, elements, Parts, parts, reading}
+use Rattle.iso8583.specs.Reading.{after, unless, mti-of, bits-of, marks-of, marked-at, body, elements, Parts, parts, reading}
 use Rattle.elements.specs.Table.{table, known, within}
 use Rattle.iso8583.proofs.Firsts.{first-none}
 use Rattle.iso8583.proofs.Outcomes.{never, same-ok, unless-ok, after-is-ok}
 use Rattle.elements.proofs.Rows.{proper-table, known-range}
 use Rattle.iso8583.proofs.Tiles.{Stepped, stepped}
-use Rattle.iso8583.proofs.Wholes.{from-kind, from-bits}
+use Rattle.iso8583.proofs.Wholes.{from-mti, from-bits}
 
 -- a message that was read, step by step
-pub record Whole (bs : List ℕ) (kind bits : ℕ) (es : List Found) : Type 0 where
-  pub typed : kind-of bs ≡ Ok kind
+pub record Whole (bs : List ℕ) (mti bits : ℕ) (es : List Found) : Type 0 where
+  pub typed : mti-of bs ≡ Ok mti
   pub mapped : bits-of bs ≡ Ok bits
   pub marks : ℕ
   pub known-only : marks-of bits ≡ Ok marks
   pub found : elements table bits (body bits) (drop (body bits) bs) ≡ Ok es
 
-pub taken-apart : (bs : List ℕ) (kind bits : ℕ) (es : List Found) → reading bs ≡ Ok (parts kind bits es) → Whole bs kind bits es
-taken-apart bs kind bits es h =
-    let a = after-is-ok (kind-of bs) (from-kind bs) (parts kind bits es) h in
-    let b = after-is-ok (bits-of bs) (from-bits bs (a .0)) (parts kind bits es) (a .2) in
-    let c = after-is-ok (marks-of (b .0)) (λ _. after (elements table (b .0) (body (b .0)) (drop (body (b .0)) bs)) (λ fs. Ok (parts (a .0) (b .0) fs))) (parts kind bits es) (b .2) in
-    let d = after-is-ok (elements table (b .0) (body (b .0)) (drop (body (b .0)) bs)) (λ fs. Ok (parts (a .0) (b .0) fs)) (parts kind bits es) (c .2) in
-    let same : parts (a .0) (b .0) (d .0) ≡ parts kind bits es = same-ok (d .2) in
-    let k = ap (λ p. p .kind) same in
+pub taken-apart : (bs : List ℕ) (mti bits : ℕ) (es : List Found) → reading bs ≡ Ok (parts mti bits es) → Whole bs mti bits es
+taken-apart bs mti bits es h =
+    let a = after-is-ok (mti-of bs) (from-mti bs) (parts mti bits es) h in
+    let b = after-is-ok (bits-of bs) (from-bits bs (a .0)) (parts mti bits es) (a .2) in
+    let c = after-is-ok (marks-of (b .0)) (λ _. after (elements table (b .0) (body (b .0)) (drop (body (b .0)) bs)) (λ fs. Ok (parts (a .0) (b .0) fs))) (parts mti bits es) (b .2) in
+    let d = after-is-ok (elements table (b .0) (body (b .0)) (drop (body (b .0)) bs)) (λ fs. Ok (parts (a .0) (b .0) fs)) (parts mti bits es) (c .2) in
+    let same : parts (a .0) (b .0) (d .0) ≡ parts mti bits es = same-ok (d .2) in
+    let k = ap (λ p. p .mti) same in
     let m = ap (λ p. p .bits) same in
     let e = ap (λ p. p .elements) same in
     record {
@@ -91,7 +91,7 @@ all-known bits marks k h l r m =
     let off = first-none (strange bits) 2 127 none k l (omega arith) in
     ⊎-elim (λ t. t) (λ f. absurd (both-ways (strange bits k) off (and-from (marked bits k) (not (known table k)) m (ap not f)))) (cases-bool (known table k))
 
-module _ (bs : List ℕ) (kind bits : ℕ) (es : List Found) (k : ℕ) (w : Whole bs kind bits es) where
+module _ (bs : List ℕ) (mti bits : ℕ) (es : List Found) (k : ℕ) (w : Whole bs mti bits es) where
   unmarked : known table k ≡ false → (within 2 128 k && marked bits k) ≡ false
   unmarked f =
       ⊎-elim

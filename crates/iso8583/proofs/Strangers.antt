@@ -14,8 +14,8 @@ use Rattle.std.specs.declared.result.Result.{Result}
 use Rattle.std.specs.declared.result.Result.the-variants.{Ok, Err}
 use Rattle.elements.specs.declared.fault.MessageFault.{MessageFault}
 use Rattle.elements.specs.declared.fault.MessageFault.the-variants.{Unknown, Empty}
-use Rattle.iso8583.specs.Reading.{after, unless, marked-at, marks-of}
-use Rattle.std.proofs.shelf.Tests.{eq-eqb, ne-eqb, cases-eq, both-ways, and-from, and-right, cond-true, cond-false}
+use Rattle.iso8583.specs.Reading.{after, unless, marked-at, second-empty, marks-of}
+use Rattle.std.proofs.shelf.Tests.{ne-eqb, cases-eq, both-ways, and-right, cond-true, cond-false}
 use Rattle.iso8583.specs.Bitmap.{marked, first, strange}
 use Rattle.elements.specs.Table.{table, known}
 use Rattle.iso8583.proofs.Bits.{marked-and, marked-flip, Top, top}
@@ -62,11 +62,10 @@ module _ (bits ks : ℕ) (fits : bits < 2 ^ 128) (small : ks < 2 ^ 128) (knows :
   unfolding told
   strange-refused some = sym (ap told (lowest-strange (⊎-elim (λ e. absurd (some e)) (λ n. omega arith) (cases-eq odd-ones 0))))
 
-  pub empty-refused : odd-ones ≡ 0 → marked bits 1 ≡ true → bits % 2 ^ 64 ≡ 0 → Err Empty ≡ marks-of bits
+  pub empty-refused : odd-ones ≡ 0 → second-empty bits ≡ true → Err Empty ≡ marks-of bits
   unfolding told
-  empty-refused none second low =
-      sym (cond-true _ (Err Empty) (Ok bits) (and-from (marked bits 1) (eqb (bits % 2 ^ 64) 0) second (eq-eqb (bits % 2 ^ 64) 0 low))) ∙ sym (ap told (none-strange none))
+  empty-refused none empty = sym (cond-true _ (Err Empty) (Ok bits) empty) ∙ sym (ap told (none-strange none))
 
-  pub all-known : odd-ones ≡ 0 → (marked bits 1 && eqb (bits % 2 ^ 64) 0) ≡ false → Ok bits ≡ marks-of bits
+  pub all-known : odd-ones ≡ 0 → second-empty bits ≡ false → Ok bits ≡ marks-of bits
   unfolding told
   all-known none fine = sym (cond-false _ (Err Empty) (Ok bits) fine) ∙ sym (ap told (none-strange none))

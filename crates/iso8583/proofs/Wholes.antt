@@ -16,7 +16,7 @@ use Rattle.elements.specs.declared.fault.MessageFault.{MessageFault}
 use Rattle.elements.specs.declared.fault.MessageFault.the-variants.{Bitmap, Unknown, Empty}
 use Rattle.iso8583.specs.declared.found.Found.{Found}
 use Rattle.iso8583.specs.Bitmap.{marked, joined, first, strange}
-use Rattle.iso8583.specs.Reading.{after, unless, wrong, kind-of, half, with-second, bits-of, marks-of, marked-at, body, elements, parts, Parts, reading}
+use Rattle.iso8583.specs.Reading.{after, unless, wrong, mti-of, half, with-second, bits-of, marks-of, marked-at, body, elements, parts, Parts, reading}
 use Rattle.elements.specs.Table.{table, hexadecimal}
 use Rattle.iso8583.proofs.Outcomes.{never, same-ok, unless-ok, after-is-ok}
 use Rattle.iso8583.proofs.Steps.{after-ok}
@@ -57,14 +57,14 @@ marks-same bits b h =
     fine (marked bits 1 && eqb (bits % 2 ^ 64) 0) bits b (a .2)
 
 abbrev pub from-bits : List ℕ → ℕ → ℕ → Result Parts MessageFault
-from-bits bs kind bits =
-    after (marks-of bits) (λ _. after (elements table bits (body bits) (drop (body bits) bs)) (λ es. Ok (parts kind bits es)))
+from-bits bs mti bits =
+    after (marks-of bits) (λ _. after (elements table bits (body bits) (drop (body bits) bs)) (λ es. Ok (parts mti bits es)))
 
-abbrev pub from-kind : List ℕ → ℕ → Result Parts MessageFault
-from-kind bs kind = after (bits-of bs) (from-bits bs kind)
+abbrev pub from-mti : List ℕ → ℕ → Result Parts MessageFault
+from-mti bs mti = after (bits-of bs) (from-bits bs mti)
 
 -- a message in four steps
-module _ (bs : List ℕ) (kind marks bits : ℕ) (k : Ok kind ≡ kind-of bs) (b : Ok marks ≡ bits-of bs) (m : Ok bits ≡ marks-of marks) where
+module _ (bs : List ℕ) (mti marks bits : ℕ) (k : Ok mti ≡ mti-of bs) (b : Ok marks ≡ bits-of bs) (m : Ok bits ≡ marks-of marks) where
   same-marks : marks ≡ bits
   same-marks = marks-same marks bits (sym m)
 
@@ -72,15 +72,15 @@ module _ (bs : List ℕ) (kind marks bits : ℕ) (k : Ok kind ≡ kind-of bs) (b
   body-inside = subst (λ x. body x ≤ length bs) same-marks (bits-long bs marks (sym b))
 
   abbrev by-elements : ℕ → Result Parts MessageFault
-  by-elements x = after (elements table x (body x) (drop (body x) bs)) (λ es. Ok (parts kind x es))
+  by-elements x = after (elements table x (body x) (drop (body x) bs)) (λ es. Ok (parts mti x es))
 
   in-steps : reading bs ≡ by-elements bits
   in-steps =
-      sym (after-ok (from-kind bs) k) ∙ sym (after-ok (from-bits bs kind) b)
+      sym (after-ok (from-mti bs) k) ∙ sym (after-ok (from-bits bs mti) b)
       ∙ sym (after-ok (λ _. by-elements marks) m) ∙ ap by-elements same-marks
 
-  pub read-whole : (es : List Found) → elements table bits (body bits) (drop (body bits) bs) ≡ Ok es → reading bs ≡ Ok (parts kind bits es)
-  read-whole es e = in-steps ∙ ap (λ r. after r (λ fs. Ok (parts kind bits fs))) e
+  pub read-whole : (es : List Found) → elements table bits (body bits) (drop (body bits) bs) ≡ Ok es → reading bs ≡ Ok (parts mti bits es)
+  read-whole es e = in-steps ∙ ap (λ r. after r (λ fs. Ok (parts mti bits fs))) e
 
   pub read-faulty : (f : MessageFault) → elements table bits (body bits) (drop (body bits) bs) ≡ Err f → reading bs ≡ Err f
-  read-faulty f e = in-steps ∙ ap (λ r. after r (λ fs. Ok (parts kind bits fs))) e
+  read-faulty f e = in-steps ∙ ap (λ r. after r (λ fs. Ok (parts mti bits fs))) e

@@ -1,13 +1,16 @@
 // The bitmap: 128 bits, of which bit 1 is the highest.
 ghost use mathlib.Core.Path.{_≡_};
-ghost use Prim.Native.Nat.{ℕ, _+_, _-_, _*_, _^_, _<_, _≤_};
+ghost use Prim.Native.Nat.{ℕ, _-_, _^_, _≤_};
 ghost use mathlib.Core.Bool.{_||_};
 ghost use lib.Dec.{eqb};
 ghost use Rattle.iso8583.specs.Bitmap.{marked, joined};
-ghost use Rattle.iso8583.specs.Reading.{body, marks-of};
+ghost use Rattle.iso8583.specs.Reading.{body, second-empty, marks-of};
 ghost use Rattle.elements.specs.Table.{table, known};
 use elements::fault::MessageFault;
 use elements::table::rows;
+
+// What the second bitmap counts up to.
+const SECOND: u128 = 1 << 64;
 
 // The bit of an element, in a number of 128.
 pub fn bit(element: u8) -> u128
@@ -49,6 +52,13 @@ pub fn known_bits() -> u128
     bits
 }
 
+// Whether a second bitmap is announced and marks nothing.
+fn second_is_empty(bitmap: u128) -> bool
+    ensures { λ r. ⌜ r ≡ second-empty bitmap ⌝ }
+{
+    is_marked(bitmap, 1) && bitmap % SECOND == 0
+}
+
 // The bitmap again, if it marks only elements of the table, and its second half at least one where it is announced.
 pub(crate) fn known_marks(bitmap: u128) -> Result<u128, MessageFault>
     ensures { λ r. ⌜ r ≡ marks-of bitmap ⌝ }
@@ -59,7 +69,7 @@ pub(crate) fn known_marks(bitmap: u128) -> Result<u128, MessageFault>
         let place = 4 + (element as usize - 1) / 4;
         return Err(MessageFault::Unknown { element, place });
     }
-    if is_marked(bitmap, 1) && bitmap & u128::from(u64::MAX) == 0 {
+    if second_is_empty(bitmap) {
         return Err(MessageFault::Empty);
     }
     Ok(bitmap)

@@ -12,19 +12,24 @@ use elements::table::ROWS;
 
 mod methods;
 
-// A message that was read: its bytes, the bitmap, and the offsets of its elements, of which `found` has `count`.
-// Every message that exists is what the format says of its bytes. Its elements lie inside them, in rising order and
-// without gap, from the bitmap's end to the last byte.
+// Where the parts of a message lie in its bytes: the type, the bitmap, and the offsets of the elements, of which `found` has `count`.
 #[derive(Clone, Copy)]
-pub struct Message<'a> {
-    bytes: &'a [u8],
-    kind: u16,
+pub struct Layout {
+    mti: u16,
     bitmap: u128,
     found: [Found; ROWS],
     count: usize,
-    ghost few: { count ≤ length found },
-    ghost whole: { ∥ reading (now bytes) ≡ Ok (parts kind bitmap (take count found)) ∥₁ },
-    ghost tiled: { ∥ Tiled (body bitmap) 1 (take count found) (length (now bytes)) ∥₁ },
+}
+
+// A message over the bytes that it was read from, made by `Layout::read` and then `over`. Every message that exists is what the
+// format says of its bytes: its elements lie inside them, in rising order and without gap, from the bitmaps' end to the last byte.
+#[derive(Clone, Copy)]
+pub struct Message<'a> {
+    bytes: &'a [u8],
+    layout: Layout,
+    ghost few: { layout .count ≤ length (layout .found) },
+    ghost whole: { ∥ reading (now bytes) ≡ Ok (parts (layout .mti) (layout .bitmap) (take (layout .count) (layout .found))) ∥₁ },
+    ghost tiled: { ∥ Tiled (body (layout .bitmap)) 1 (take (layout .count) (layout .found)) (length (now bytes)) ∥₁ },
 }
 
 // An element of a message: its characters, a part of the message's own bytes, and their offset there.

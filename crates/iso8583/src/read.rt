@@ -6,7 +6,7 @@ ghost use lib.ListN.{length, getD, drop};
 ghost use Rattle.std.specs.Options.{Cases as BySome};
 ghost use Rattle.std.specs.Text.{digitValue};
 ghost use Rattle.std.specs.Vec.{made};
-ghost use Rattle.iso8583.specs.Reading.{kind-of, half, bits-of, body, wrong, characters, two-digits, sized};
+ghost use Rattle.iso8583.specs.Reading.{mti-of, half, bits-of, body, wrong, characters, two-digits, sized};
 ghost use Rattle.elements.specs.Table.{decimal, hexadecimal, fits};
 ghost use Rattle.iso8583.specs.Walked.{Walked};
 use crate::bitmap::body;
@@ -49,18 +49,18 @@ fn hexadecimal_at(bytes: &[u8], place: usize) -> Option<u8>
     }
 }
 
-pub(crate) fn read_kind(bytes: &[u8]) -> Result<u16, MessageFault>
-    ensures value { λ r. ⌜ r ≡ kind-of (now (bytes .entry)) ⌝ }
+pub(crate) fn read_mti(bytes: &[u8]) -> Result<u16, MessageFault>
+    ensures value { λ r. ⌜ r ≡ mti-of (now (bytes .entry)) ⌝ }
     ensures long { λ r. ⌜ made r (λ _. 4 ≤ length (now (bytes .entry))) ⌝ }
 {
-    let mut kind = 0;
+    let mut mti = 0;
     for place in 0..4 {
         let Some(digit) = decimal_at(bytes, place) else {
-            return Err(MessageFault::Kind { place });
+            return Err(MessageFault::Mti { place });
         };
-        kind = kind * 10 + u16::from(digit);
+        mti = mti * 10 + u16::from(digit);
     }
-    Ok(kind)
+    Ok(mti)
 }
 
 // One bitmap, of which `rest` has what stands from its place on.
@@ -118,7 +118,7 @@ fn read_characters(
 {
     let element = row.element;
     if rest.len() < n {
-        return Err(ElementFault::Ends { element, place: at });
+        return Err(ElementFault::Truncated { element, place: at });
     }
     if let Some(place) = first_wrong(row.format, start, &rest[0..n]) {
         return Err(ElementFault::Character { element, place });
@@ -149,18 +149,18 @@ fn read_element(row: &Row, at: usize, rest: &[u8]) -> Result<Found, ElementFault
     let element = row.element;
     let limit = match row.length {
         Length::Fixed(n) => return read_characters(row, at, at, n as usize, rest),
-        Length::UpTo(limit) => limit as usize,
+        Length::UpTo(limit) => limit,
     };
     let [tens, units, rest @ ..] = rest else {
-        return Err(ElementFault::Ends { element, place: at });
+        return Err(ElementFault::Truncated { element, place: at });
     };
     match two_digits(*tens, *units) {
-        Some(n) if 1 <= n && n <= limit => read_characters(row, at, at + 2, n, rest),
+        Some(n) if Length::UpTo(limit).admits(n) => read_characters(row, at, at + 2, n, rest),
         _ => Err(ElementFault::Length { element, place: at }),
     }
 }
 
-// The elements that a bitmap marks, as far as the message has them: where they stand, and how many there are.
+// The elements that a bitmap marks: where they stand, and how many there are.
 pub(crate) fn read_elements(
     bytes: &[u8],
     bitmap: u128,

@@ -1,68 +1,58 @@
 ghost use mathlib.Core.Path.{_≡_};
-ghost use lib.Chars.{codes};
-ghost use lib.ListN.{length, take};
 ghost use Rattle.std.specs.Options.{isSome};
-ghost use Rattle.iso8583.specs.Messages.{Took, Handed, present};
+ghost use Rattle.iso8583.specs.Messages.{Read, Lies, layout-of, Handed, present};
 use crate::bitmap::is_marked;
 use crate::bitmap::known_marks;
-use crate::found::Found;
 use crate::message::Element;
+use crate::message::Layout;
 use crate::message::Message;
 use crate::read::read_bitmap;
 use crate::read::read_elements;
-use crate::read::read_kind;
+use crate::read::read_mti;
 use elements::fault::MessageFault;
-use elements::table::ROWS;
 
-// The shortest message that there is: type 0000, and no elements.
-const SHORTEST: &[u8] = b"00000000000000000000";
-
-impl<'a> Message<'a> {
-    // A message to read another into.
-    pub fn shortest() -> Message<'a>
-        ensures { λ r. ⌜ now (r .bytes) ≡ codes "00000000000000000000" ⌝ }
+impl Layout {
+    // Finds the parts of a message in bytes of any length and content, or refuses them: `Layout::read(bytes)?.over(bytes)`.
+    pub fn read(bytes: &[u8]) -> Result<Layout, MessageFault>
+        ensures { λ r. ⌜ Read (now (bytes .entry)) r ⌝ }
     {
-        Message {
-            bytes: SHORTEST,
-            kind: 0,
-            bitmap: 0,
-            found: [Found {
-                element: 0,
-                start: 0,
-                end: 0,
-            }; ROWS],
-            count: 0,
-        }
-    }
-
-    // Becomes the message that the bytes are, or stays as it is.
-    pub fn read(&mut self, bytes: &'a [u8]) -> Result<(), MessageFault>
-        ensures { λ r. ⌜ Took (now (bytes .entry)) (now (self .entry)) r (now (self .exit)) ⌝ }
-    {
-        let kind = read_kind(bytes)?;
+        let mti = read_mti(bytes)?;
         let bitmap = known_marks(read_bitmap(bytes)?)?;
         let (found, count) = read_elements(bytes, bitmap)?;
-        *self = Message {
-            bytes,
-            kind,
+        Ok(Layout {
+            mti,
             bitmap,
             found,
             count,
-        };
-        Ok(())
+        })
     }
 
-    pub fn kind(&self) -> u16
-        ensures { λ r. ⌜ r ≡ now (self .entry) .kind ⌝ }
+    // The message over the bytes that the layout was read from.
+    pub fn over(self, bytes: &[u8]) -> Message<'_>
+        requires { ⌜ Lies (now bytes) self ⌝ }
+        ensures bytes { λ r. ⌜ now (r .bytes) ≡ now (bytes .entry) ⌝ }
+        ensures layout { λ r. ⌜ layout-of r ≡ self ⌝ }
     {
-        self.kind
+        Message {
+            bytes,
+            layout: self,
+        }
+    }
+}
+
+impl<'a> Message<'a> {
+    // The message's type, as a number: 0200 is 200.
+    pub fn mti(&self) -> u16
+        ensures { λ r. ⌜ r ≡ now (self .entry) .layout .mti ⌝ }
+    {
+        self.layout.mti
     }
 
     // Whether the message has an element.
     pub fn has(&self, number: u8) -> bool
         ensures { λ r. ⌜ r ≡ present (now (self .entry)) number ⌝ }
     {
-        matches!(number, 2..=128) && is_marked(self.bitmap, number)
+        matches!(number, 2..=128) && is_marked(self.layout.bitmap, number)
     }
 
     // An element, if the message has it: a part of the message's own bytes.
@@ -70,8 +60,8 @@ impl<'a> Message<'a> {
         ensures part { λ r. ⌜ Handed (now (self .entry)) number r ⌝ }
         ensures there { λ r. ⌜ isSome r ≡ present (now (self .entry)) number ⌝ }
     {
-        for i in 0..self.count {
-            let found = self.found[i];
+        for i in 0..self.layout.count {
+            let found = self.layout.found[i];
             if found.element == number {
                 return Some(found.lend(self.bytes));
             }

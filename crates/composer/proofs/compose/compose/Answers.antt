@@ -14,13 +14,13 @@ use Rattle.composer.proofs.Rounds.{read-again, yielded-again}
 use Rattle.composer.proofs.compose.compose.Needs as need
 
 -- both laws follow from the steps
-reads : (out out′ : List ℕ) (kind : ℕ) (is : List Item) (r : Result ℕ MessageFault) → All (λ m. m < 256) (map (λ i. i .number) is) → Steps (composed out kind is) r out′ → Read-again kind is r out′
-reads out out′ kind is (Ok n) small s = ap (λ o. content-of (take n o)) (s .1) ∙ read-again out kind is n small (sym (s .0))
-reads out out′ kind is (Err f) small s = tt
+reads : (out out′ : List ℕ) (mti : ℕ) (is : List Item) (r : Result ℕ MessageFault) → All (λ m. m < 256) (map (λ i. i .number) is) → Steps (composed out mti is) r out′ → Read-again mti is r out′
+reads out out′ mti is (Ok n) small s = ap (λ o. content-of (take n o)) (s .1) ∙ read-again out mti is n small (sym (s .0))
+reads out out′ mti is (Err f) small s = tt
 
-yields : (out out′ : List ℕ) (kind : ℕ) (is : List Item) (r : Result ℕ MessageFault) → Steps (composed out kind is) r out′ → Yielded-again out kind is r out′
-yields out out′ kind is r s bs h room =
-    let e = yielded-again out kind is bs h room in
+yields : (out out′ : List ℕ) (mti : ℕ) (is : List Item) (r : Result ℕ MessageFault) → Steps (composed out mti is) r out′ → Yielded-again out mti is r out′
+yields out out′ mti is r s bs h room =
+    let e = yielded-again out mti is bs h room in
     (s .0 ∙ ap (λ c. c .answer) e, s .1 ∙ ap (λ c. c .out) e)
 
 pub returns-in-Break-writer : need.returns-in-Break-writer
@@ -31,8 +31,8 @@ returns-in-Break-writer c =
     let told = c .in-Break-writer .ensures tt (numbers (c .args .elements .now)) set in
     let p = err-from-errBy (c .from-residual .result) (c .from-residual .ensures .1) in
     let e = ap (λ r. on r out (λ s. all-put s is)) (told .0) in
-    let steps : Steps (composed out (c .args .kind) is) (c .from-residual .result) (c .begin .last .out) = (p .1 ∙ ap (λ f. Err f) (p .2) ∙ sym (ap (λ x. x .answer) e), told .1 ∙ sym (ap (λ x. x .out) e)) in
-    record { steps = steps; read-again = reads out _ (c .args .kind) is _ (set .bytes) steps; yielded-again = yields out _ (c .args .kind) is _ steps }
+    let steps : Steps (composed out (c .args .mti) is) (c .from-residual .result) (c .begin .last .out) = (p .1 ∙ ap (λ f. Err f) (p .2) ∙ sym (ap (λ x. x .answer) e), told .1 ∙ sym (ap (λ x. x .out) e)) in
+    record { steps = steps; read-again = reads out _ (c .args .mti) is _ (set .bytes) steps; yielded-again = yields out _ (c .args .mti) is _ steps }
 
 pub returns : need.returns
 returns c =
@@ -42,5 +42,5 @@ returns c =
     let told = c .in-Continue-writer .ensures tt (numbers (c .args .elements .now)) set in
     let e = ap (λ r. on r out (λ s. all-put s is)) told in
     let put = c .put-all .ensures in
-    let steps : Steps (composed out (c .args .kind) is) (c .put-all .result) (c .put-all .last .out) = (put .0 ∙ sym (ap (λ x. x .answer) e), put .1 ∙ sym (ap (λ x. x .out) e)) in
-    record { steps = steps; read-again = reads out _ (c .args .kind) is _ (set .bytes) steps; yielded-again = yields out _ (c .args .kind) is _ steps }
+    let steps : Steps (composed out (c .args .mti) is) (c .put-all .result) (c .put-all .last .out) = (put .0 ∙ sym (ap (λ x. x .answer) e), put .1 ∙ sym (ap (λ x. x .out) e)) in
+    record { steps = steps; read-again = reads out _ (c .args .mti) is _ (set .bytes) steps; yielded-again = yields out _ (c .args .mti) is _ steps }

@@ -26,4 +26,4 @@ returns-in-Some c =
     let cs = c .args .rest .now in
     c .read-characters-in-Some .ensures
     ∙ ap (characters (c .args .row .now) (c .args .at) (c .args .at + 2) (c .in-Some .n)) (take-rest cs 2)
-    ∙ varied (c .args .row .now) (c .args .at) (c .in-UpTo .limit) (c .in-Some .n) cs (c .in-UpTo .is) (search needs) (c .in-Some .ensures tt) (and-from _ _ (le-leb _ _ (c .if-n-ge1 .taken)) (le-leb _ _ (c .if-n-limit .taken)))
+    ∙ varied (c .args .row .now) (c .args .at) (c .in-UpTo .limit) (c .in-Some .n) cs (c .in-UpTo .is) (search needs) (c .in-Some .ensures tt) (sym (c .if-admits .ensures tt))

@@ -5,8 +5,8 @@ use Rattle.elements.proofs.original.Original.read.Needs as need
 pub returns-then-digits-ne-DIGITS : need.returns-then-digits-ne-DIGITS
 returns-then-digits-ne-DIGITS c = search (needs, other-length)
 
-pub returns-in-Break-kind : need.returns-in-Break-kind
-returns-in-Break-kind c = let h = c .in-Break-kind .ensures tt in search (needs, no-digits)
+pub returns-in-Break-mti : need.returns-in-Break-mti
+returns-in-Break-mti c = let h = c .in-Break-mti .ensures tt in search (needs, no-digits)
 
 pub returns-in-Break-trace : need.returns-in-Break-trace
 returns-in-Break-trace c = let h = c .in-Break-trace .ensures tt in search (needs, no-digits)

@@ -27,27 +27,27 @@ use Rattle.iso8583.proofs.message.Message.element.Needs as need
 abbrev none : Found
 none = record { element = 0; start = 0; end = 0 }
 
-module _ (m : Message) (i : ℕ) (h : i < m .count) where
-  here : getD (take (m .count) (m .found)) i none ≡ getD (m .found) i none
-  here = getD-take (m .count) (m .found) i none h
+module _ (m : Message) (i : ℕ) (h : i < m .layout .count) where
+  here : getD (take (m .layout .count) (m .layout .found)) i none ≡ getD (m .layout .found) i none
+  here = getD-take (m .layout .count) (m .layout .found) i none h
 
-  near : i < length (take (m .count) (m .found))
-  near = omega (arith, length-take-le (m .count) (m .found) (m .few))
+  near : i < length (take (m .layout .count) (m .layout .found))
+  near = omega (arith, length-take-le (m .layout .count) (m .layout .found) (m .few))
 
-  lies : Tiled (body (m .bitmap)) 1 (take (m .count) (m .found)) (length (now (m .bytes))) → (getD (m .found) i none .start ≤ getD (m .found) i none .end) × (getD (m .found) i none .end ≤ length (now (m .bytes)))
+  lies : Tiled (body (m .layout .bitmap)) 1 (take (m .layout .count) (m .layout .found)) (length (now (m .bytes))) → (getD (m .layout .found) i none .start ≤ getD (m .layout .found) i none .end) × (getD (m .layout .found) i none .end ≤ length (now (m .bytes)))
   lies t =
       let P : Found → Type 0 = λ f. (f .start ≤ f .end) × (f .end ≤ length (now (m .bytes))) in
-      subst P here (inside (take (m .count) (m .found)) (body (m .bitmap)) 1 (length (now (m .bytes))) i none t near)
+      subst P here (inside (take (m .layout .count) (m .layout .found)) (body (m .layout .bitmap)) 1 (length (now (m .bytes))) i none t near)
 
-  forward : getD (m .found) i none .start ≤ getD (m .found) i none .end
+  forward : getD (m .layout .found) i none .start ≤ getD (m .layout .found) i none .end
   forward = ∥∥₁-elim (m .tiled) le-prop (λ t. lies t .0)
 
-  within-bytes : getD (m .found) i none .end ≤ length (now (m .bytes))
+  within-bytes : getD (m .layout .found) i none .end ≤ length (now (m .bytes))
   within-bytes = ∥∥₁-elim (m .tiled) le-prop (λ t. lies t .1)
 
-  open-at : (k : ℕ) → found-of (drop i (take (m .count) (m .found))) k ≡ cond (eqb (getD (m .found) i none .element) k) (Some (getD (m .found) i none)) (found-of (drop (i + 1) (take (m .count) (m .found))) k)
+  open-at : (k : ℕ) → found-of (drop i (take (m .layout .count) (m .layout .found))) k ≡ cond (eqb (getD (m .layout .found) i none .element) k) (Some (getD (m .layout .found) i none)) (found-of (drop (i + 1) (take (m .layout .count) (m .layout .found))) k)
   open-at k =
-      let es = take (m .count) (m .found) in
+      let es = take (m .layout .count) (m .layout .found) in
       ap (λ l. found-of l k) (drop-more es i none near) ∙ ap (λ f. cond (eqb (f .element) k) (Some f) (found-of (drop (i + 1) es) k)) here
 
 pub lend-requires : need.lend-requires
@@ -56,9 +56,9 @@ lend-requires c κs =
     (forward m (c .loop-i .i) (c .loop-i-test .taken), within-bytes m (c .loop-i .i) (c .loop-i-test .taken))
 
 -- what was found is there by the bitmap
-by-bitmap : (m : Message) (k : ℕ) → isSome (found-of (take (m .count) (m .found)) k) ≡ present m k
+by-bitmap : (m : Message) (k : ℕ) → isSome (found-of (take (m .layout .count) (m .layout .found)) k) ≡ present m k
 by-bitmap m k =
-    ∥∥₁-elim (m .whole) (≡-prop codedBool _ _) (λ w. found-present (now (m .bytes)) (m .kind) (m .bitmap) (take (m .count) (m .found)) k (taken-apart _ _ _ _ w))
+    ∥∥₁-elim (m .whole) (≡-prop codedBool _ _) (λ w. found-present (now (m .bytes)) (m .layout .mti) (m .layout .bitmap) (take (m .layout .count) (m .layout .found)) k (taken-apart _ _ _ _ w))
 
 pub returns-then-found-number : need.returns-then-found-number
 returns-then-found-number c =
@@ -67,7 +67,7 @@ returns-then-found-number c =
     let i = c .loop-i .i in
     let here = c .loop-i .inv ∙ open-at m i (c .loop-i-test .taken) k ∙ cond-true _ _ _ (eq-eqb _ _ (c .if-found-number .taken)) in
     record {
-      part = record { found = getD (m .found) i none; here = here; number = c .lend .ensures .number ∙ c .if-found-number .taken; offset = c .lend .ensures .offset; chars = c .lend .ensures .chars };
+      part = record { found = getD (m .layout .found) i none; here = here; number = c .lend .ensures .number ∙ c .if-found-number .taken; offset = c .lend .ensures .offset; chars = c .lend .ensures .chars };
       there = sym (ap isSome here) ∙ by-bitmap m k;
     }
 
@@ -80,5 +80,5 @@ pub returns : need.returns
 returns c =
     let m = c .args .self .now in
     let k = c .args .number in
-    let absent = c .loop-i .inv ∙ ap (λ l. found-of l k) (drop-all (c .loop-i .i) (take (m .count) (m .found)) (omega (arith, length-take-le (m .count) (m .found) (m .few)))) in
+    let absent = c .loop-i .inv ∙ ap (λ l. found-of l k) (drop-all (c .loop-i .i) (take (m .layout .count) (m .layout .found)) (omega (arith, length-take-le (m .layout .count) (m .layout .found) (m .few)))) in
     record { part = absent; there = sym (ap isSome absent) ∙ by-bitmap m k }

@@ -4,4 +4,4 @@ use Rattle.iso8583.specs.Messages.{found-of}
 use Rattle.iso8583.proofs.message.Message.element.Given as given
 
 abbrev pub Inv-loop-i : given.InvT-loop-i
-Inv-loop-i l = found-of (take (l .self .count) (l .self .found)) (l .number) ≡ found-of (drop (l .i) (take (l .self .count) (l .self .found))) (l .number)
+Inv-loop-i l = found-of (take (l .self .layout .count) (l .self .layout .found)) (l .number) ≡ found-of (drop (l .i) (take (l .self .layout .count) (l .self .layout .found))) (l .number)

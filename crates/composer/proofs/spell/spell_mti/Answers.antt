@@ -1,6 +1,6 @@
 use borrow.Author.Needs.{needs}
 use Rattle.elements.specs.Fields.{spelled}
-use Rattle.composer.proofs.spell.spell_kind.Needs as need
+use Rattle.composer.proofs.spell.spell_mti.Needs as need
 
 pub returns : need.returns
 unfolding spelled
