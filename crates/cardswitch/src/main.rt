@@ -1,8 +1,6 @@
 // Runs a deck of calls, read from the file that is named as the argument or else from standard input, and prints what
 // came of each.
-mod deck;
 mod run;
-mod text;
 
 use deck::Deck;
 use deck::DeckFaultError;

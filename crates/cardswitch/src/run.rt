@@ -1,7 +1,7 @@
 // Makes the calls of a deck, in their order, and prints what came of each.
-use crate::deck::Command;
-use crate::deck::Deck;
 use composer::compose::compose;
+use deck::Command;
+use deck::Deck;
 use elements::fault::Layer;
 use elements::fault::Refusal;
 use iso8583::message::Element;

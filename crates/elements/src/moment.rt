@@ -57,28 +57,3 @@ impl Moment {
         self.number
     }
 }
-
-#[cfg(test)]
-mod tests {
-    use super::*;
-    use std::test::*;
-
-    #[test]
-    fn a_moment_is_taken() -> Result<(), Fail> {
-        let Some(moment) = Moment::read(b"0105101500") else {
-            return Err(Fail::new("refused"));
-        };
-        check_eq(moment.number(), 105_101_500)
-    }
-
-    #[test]
-    fn what_is_no_moment_is_refused() -> Result<(), Fail> {
-        check(Moment::read(b"0010101010").is_none()).note("month 00")?;
-        check(Moment::read(b"1301000000").is_none()).note("month 13")?;
-        check(Moment::read(b"0132000000").is_none()).note("day 32")?;
-        check(Moment::read(b"0101240000").is_none()).note("hour 24")?;
-        check(Moment::read(b"0101006000").is_none()).note("minute 60")?;
-        check(Moment::read(b"0101000060").is_none()).note("second 60")?;
-        check(Moment::read(b"105101500").is_none()).note("nine digits")
-    }
-}

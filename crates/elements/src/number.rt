@@ -22,21 +22,3 @@ pub fn number(digits: &[u8]) -> Option<u64>
     }
     Some(sum)
 }
-
-#[cfg(test)]
-mod tests {
-    use super::*;
-    use std::test::*;
-
-    #[test]
-    fn one_to_nineteen_digits() -> Result<(), Fail> {
-        check_eq(number(b"0"), Some(0))?;
-        check_eq(
-            number(b"9999999999999999999"),
-            Some(9_999_999_999_999_999_999),
-        )?;
-        check_eq(number(b""), None)?;
-        check_eq(number(b"00000000000000000001"), None).note("twenty digits")?;
-        check_eq(number(b"12a"), None)
-    }
-}

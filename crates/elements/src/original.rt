@@ -57,34 +57,3 @@ impl Original {
         })
     }
 }
-
-#[cfg(test)]
-mod tests {
-    use super::*;
-    use std::test::*;
-
-    #[test]
-    fn element_90_is_taken_apart() -> Result<(), Fail> {
-        let original = Original::read(b"020000000101051015000000000011100000000000").ok_or(
-            "refused",
-        )?;
-        check_eq(original.mti, 200)?;
-        check_eq(original.trace, 1)?;
-        check_eq(original.moment, 105_101_500)?;
-        check_eq(original.acquirer, 111)?;
-        check_eq(original.forwarder, 0)
-    }
-
-    #[test]
-    fn other_lengths_and_letters_are_refused() -> Result<(), Fail> {
-        check(Original::read(b"02000000010105101500000000001110000000000").is_none()).note(
-            "41 digits",
-        )?;
-        check(Original::read(b"0200000001010510150000000000111000000000000").is_none()).note(
-            "43 digits",
-        )?;
-        check(Original::read(b"02000000010105101500000000001110000000000a").is_none()).note(
-            "a letter",
-        )
-    }
-}
