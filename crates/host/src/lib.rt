@@ -1,6 +1,7 @@
 // What an issuer's host means to the switch: its lines, and the five calls by which they change.
 ghost use mathlib.Core.Path.{_≡_};
 ghost use Rattle.host.specs.Meaning.{Meaning, Posts, Reverses, Forgets, Turns};
+
 pub mod ask;
 pub mod line;
 

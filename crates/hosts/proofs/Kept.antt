@@ -11,9 +11,9 @@ use Rattle.std.specs.declared.option.Option.{Option}
 use Rattle.std.specs.declared.option.Option.the-variants.{Some, None}
 use Rattle.std.proofs.shelf.Tests.{cond-true, cond-false, cases-bool, and-parts, and-from, and-left, and-right, eqb-true, eq-eqb, ne-eqb, or-left, or-right, or-from, or-parts, both-ways, cases-eq, lt-ltb, le-ltb}
 use Rattle.host.specs.declared.line.Line.{Line}
-use Rattle.host.specs.declared.line.Line.the-variants.{Absent}
+use Rattle.host.specs.declared.line.Line.the-variants.{Absent, Posted, Adrift, Leaving, Closed}
 use Rattle.hosts.specs.declared.table.Row.{Row}
-use Rattle.hosts.specs.Rows.{taken-by, kept, line-at, shown, one-free, free, row, Alone, Once, Others, Stored, Cleared}
+use Rattle.hosts.specs.Rows.{taken-by, kept, line-at, shown, one-free, free, present, row, Alone, Once, Others, Stored, Cleared}
 
 -- an empty table
 pub empty-shown : (n issuer number : ℕ) → shown (replicate n None) issuer number ≡ Absent
@@ -56,6 +56,21 @@ absent-unkept (p ∷ ps) issuer number o h =
     (λ t. absurd (solid p ps issuer number (o .0) t (sym (cond-true _ _ _ t) ∙ h)))
     (λ f. or-from _ _ f (absent-unkept ps issuer number (o .1) (sym (cond-false _ _ _ f) ∙ h)))
     (cases-bool (taken-by p issuer number))
+
+-- a place has a pair exactly if a line is shown for it
+present-if : (l : Line) → (l ≡ Absent → ⊥) → present l ≡ true
+present-if Absent n = absurd (n refl)
+present-if (Posted d) n = refl
+present-if (Adrift d) n = refl
+present-if (Leaving d) n = refl
+present-if Closed n = refl
+
+pub kept-present : (ps : List (Option Row)) (issuer number : ℕ) → Once ps → kept ps issuer number ≡ present (shown ps issuer number)
+kept-present ps issuer number o =
+    ⊎-elim
+    (λ t. t ∙ sym (present-if (shown ps issuer number) (λ e. both-ways (kept ps issuer number) (absent-unkept ps issuer number o e) t)))
+    (λ f. f ∙ sym (ap present (unkept-absent ps issuer number f)))
+    (cases-bool (kept ps issuer number))
 
 same-pair : (p : Option Row) (a b i k : ℕ) → taken-by p a b ≡ true → ((i ≡ a) × (k ≡ b) → ⊥) → taken-by p i k ≡ false
 same-pair None a b i k t n = refl
@@ -136,9 +151,10 @@ alone-stays (Some r) ps qs a b o t e =
 pub once-set : (ps : List (Option Row)) (i a b : ℕ) (q : Option Row) → Once ps → i < length ps → Ours (getD ps i None) a b → Ours q a b → Sole ps i a b → ((rs : List (Option Row)) → kept rs a b ≡ false → Alone q rs) → Once (set ps i q)
 once-set [] i a b q o h u w s f = tt
 once-set (p ∷ ps) zero a b q o h u w s f = (f ps (none-kept ps a b (λ k l. s (suc k) (omega arith) (λ e. omega arith))), o .1)
-once-set (p ∷ ps) (suc i) a b q o h u w s f =
-    (alone-stays p ps (set ps i q) a b (o .0) (s 0 (omega arith) (λ e. omega arith)) (kept-others ps i a b q (omega arith) u w),
-      once-set ps i a b q (o .1) (omega arith) u w (λ k l n. s (suc k) (omega arith) (λ e. n (omega arith))) f)
+once-set (p ∷ ps) (suc i) a b q o h u w s f = (
+  alone-stays p ps (set ps i q) a b (o .0) (s 0 (omega arith) (λ e. omega arith)) (kept-others ps i a b q (omega arith) u w),
+  once-set ps i a b q (o .1) (omega arith) u w (λ k l n. s (suc k) (omega arith) (λ e. n (omega arith))) f,
+)
 
 -- a row that is a line
 pub alone-row : (a b : ℕ) (l : Line) → (l ≡ Absent → ⊥) → (rs : List (Option Row)) → kept rs a b ≡ false → Alone (Some (row a b l)) rs

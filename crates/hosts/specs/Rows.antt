@@ -9,7 +9,7 @@ use lib.ListN.{length, getD}
 use Rattle.std.specs.declared.option.Option.{Option}
 use Rattle.std.specs.declared.option.Option.the-variants.{Some, None}
 use Rattle.host.specs.declared.line.Line.{Line}
-use Rattle.host.specs.declared.line.Line.the-variants.{Absent}
+use Rattle.host.specs.declared.line.Line.the-variants.{Absent, Posted, Adrift, Leaving, Closed}
 use Rattle.hosts.specs.declared.table.Row.{Row}
 
 -- a place that has the row of an issuer and a number
@@ -31,6 +31,13 @@ line-at (Some r) l = r .line
 abbrev pub shown : List (Option Row) → ℕ → ℕ → Line
 shown [] issuer number = Absent
 shown (p ∷ ps) issuer number = cond (taken-by p issuer number) (line-at p Absent) (shown ps issuer number)
+
+abbrev pub present : Line → Bool
+present Absent = false
+present (Posted d) = true
+present (Adrift d) = true
+present (Leaving d) = true
+present Closed = true
 
 abbrev pub one-free : Option Row → ℕ
 one-free None = 1
@@ -74,3 +81,9 @@ pub record Cleared (ps : List (Option Row)) (issuer number : ℕ) (qs : List (Op
   pub here : shown qs issuer number ≡ Absent
   pub others : Others ps issuer number qs
   pub left : free qs ≡ cond (kept ps issuer number) (free ps + 1) (free ps)
+
+-- a call leaves this line for a pair, so many places free, and all other lines as they were
+pub record Leaves (ps : List (Option Row)) (issuer number : ℕ) (l : Line) (places : ℕ) (qs : List (Option Row)) : Type 0 where
+  pub here : shown qs issuer number ≡ l
+  pub others : Others ps issuer number qs
+  pub left : free qs ≡ places

@@ -1,3 +1,4 @@
 // Hosts at the bottom, which ask no other.
-pub mod lines;
-pub mod table;
+pub mod limit;
+mod lines;
+mod table;

@@ -13,9 +13,10 @@ ghost-self g c =
     let i = c .in-Some .i in
     let a = c .args .issuer in
     let b = c .args .number in
-    let told = c .in-Some .ensures tt in
-    (length-set ps i None ∙ c .args .self .now .full,
-      (∥∥₁-map (c .args .self .now .once) (λ o. once-set ps i a b None o (told .0) (ours-taken _ a b (told .1)) (ours-free a b) (sole-taken ps i a b o (told .0) (told .1)) (λ rs k. tt)), tt))
+    let told = c .in-Some .ensures tt in (
+      length-set ps i None ∙ c .args .self .now .full,
+      (∥∥₁-map (c .args .self .now .once) (λ o. once-set ps i a b None o (told .0) (ours-taken _ a b (told .1)) (ours-free a b) (sole-taken ps i a b o (told .0) (told .1)) (λ rs k. tt)), tt),
+    )
 
 pub returns-in-Some : need.returns-in-Some
 returns-in-Some g c =

@@ -14,13 +14,17 @@ ghost-self g c =
     let b = c .args .number in
     let l = c .args .line in
     let told = c .in-Some .ensures tt in
-    let q = Some (row a b l) in
-    (length-set ps i q ∙ c .args .self .now .full,
-      (∥∥₁-map (c .args .self .now .once) (λ o.
-        ⊎-elim
-        (λ t. once-set ps i a b q o (told .0) (ours-taken _ a b (t .0)) (ours-taken q a b (own a b l)) (sole-taken ps i a b o (told .0) (t .0)) (alone-row a b l (c .pre)))
-        (λ t. once-set ps i a b q o (told .0) (subst (λ p. Ours p a b) (sym (t .0)) (ours-free a b)) (ours-taken q a b (own a b l)) (sole-free ps i a b (t .1)) (alone-row a b l (c .pre)))
-        (told .1)), tt))
+    let q = Some (row a b l) in (
+      length-set ps i q ∙ c .args .self .now .full,
+      (
+        ∥∥₁-map (c .args .self .now .once) (λ o.
+            ⊎-elim
+            (λ t. once-set ps i a b q o (told .0) (ours-taken _ a b (t .0)) (ours-taken q a b (own a b l)) (sole-taken ps i a b o (told .0) (t .0)) (alone-row a b l (c .pre)))
+            (λ t. once-set ps i a b q o (told .0) (subst (λ p. Ours p a b) (sym (t .0)) (ours-free a b)) (ours-taken q a b (own a b l)) (sole-free ps i a b (t .1)) (alone-row a b l (c .pre)))
+            (told .1)),
+        tt,
+      ),
+    )
 
 pub returns : need.returns
 returns g c =
