@@ -1,5 +1,4 @@
 // A whole message from its elements.
-ghost use mathlib.Core.Path.{_≡_};
 ghost use Rattle.composer.specs.Announced.{Announced};
 ghost use Rattle.composer.specs.Composes.{Steps, Puts, numbers, items};
 ghost use Rattle.composer.specs.Contents.{composed};

@@ -3,7 +3,6 @@ use Prim.Native.Nat.{ℕ}
 use Rattle.elements.specs.declared.fault.Layer.{Layer}
 use Rattle.elements.specs.declared.fault.Layer.the-variants as layer
 use Rattle.elements.specs.declared.fault.Refusal.{Refusal}
-use Rattle.elements.specs.declared.fault.ElementFault.{ElementFault}
 use Rattle.elements.specs.declared.fault.ElementFault.the-variants.{Truncated, Length, Character}
 use Rattle.elements.specs.declared.fault.MessageFault.{MessageFault}
 use Rattle.elements.specs.declared.fault.MessageFault.the-variants.{Mti, Bitmap, Unknown, Empty, Element, Trailing, Order, Room}

@@ -47,7 +47,7 @@ pub enum MessageFault {
     Element(ElementFault),
     // Bytes follow the last element.
     Trailing { place: usize },
-    // The writer was given another element than the next one announced, or was ended before it (0: none is announced).
+    // The writer was given another element than the next one announced, or was ended before it (0: none is left).
     Order { next: u8 },
     // The writer's buffer is too short.
     Room { element: u8 },

@@ -1,4 +1,4 @@
-// Element 90 taken apart: which message is meant by one that takes it back.
+// Element 90 of a reversal, taken apart: the message that it takes back.
 ghost use mathlib.Core.Bool.{true, false};
 ghost use mathlib.Core.Path.{_≡_};
 ghost use Prim.Native.Nat.{_+_, _<_, _≤_};

@@ -1,5 +1,4 @@
 // The elements that a message may have.
-ghost use mathlib.Core.Bool.{Bool};
 ghost use mathlib.Core.Path.{_≡_};
 ghost use Rattle.elements.specs.Table.{table, fits, admits, lead};
 
