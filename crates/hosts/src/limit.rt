@@ -22,6 +22,7 @@ use host::line::Side;
 // How many lines it keeps.
 const LINES: usize = 256;
 
+#[derive(Drop)]
 pub struct LimitHost {
     limit: u64,
     lines: Lines<LINES>,

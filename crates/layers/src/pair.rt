@@ -13,6 +13,7 @@ use host::line::Details;
 use host::line::Line;
 
 // Issuers below `split` are sent to the left host, the others to the right one.
+#[derive(Drop)]
 pub struct Pair<L: Host, R: Host> {
     left: L,
     right: R,

@@ -17,6 +17,7 @@ use host::line::Line;
 const MOST: u8 = 9;
 
 // Asks the host below again after a silence, up to `times` more.
+#[derive(Drop)]
 pub struct Retry<H: Host> {
     below: H,
     times: u8,
