@@ -19,8 +19,8 @@ softened (Declined c) = Silence
 softened Silence = Silence
 softened Clash = Clash
 
--- the host below was asked k times, and answered `said` to the last; it was silent to all before, and to the last only where
--- there was no time left
+-- the host below was asked k times and answered `said` to the last, by its count and its latest ask; it was silent to the last
+-- only where there was no time left
 pub record Tried (m : Meaning) (times issuer number : ℕ) (d : Details) (must-stand : Bool) (r : PostAnswer) (n : Meaning) : Type 0 where
   pub k : ℕ
   pub said : PostAnswer
