@@ -1,4 +1,6 @@
 // A host at the bottom that keeps accounts: the balance book.
+#![tactic(auto)]
+
 pub mod accounts;
 pub mod book;
 pub mod exchange;

@@ -1,5 +1,7 @@
 // Runs a deck of calls, read from the file that is named as the argument or else from standard input, and prints what
 // came of each.
+#![tactic(auto)]
+
 mod run;
 
 use deck::Deck;

@@ -1,4 +1,6 @@
 // Messages of ISO 8583, written.
+#![tactic(auto)]
+
 pub mod compose;
 mod marks;
 mod spell;

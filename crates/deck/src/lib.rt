@@ -1,4 +1,6 @@
 // The commands of a deck, and how they are read from its text.
+#![tactic(auto)]
+
 ghost use Rattle.std.specs.Prelude.{◌≡◌, map, Some, None, Ok, Err, MatchResult};
 ghost use Rattle.std.specs.Option.{option_map};
 ghost use Rattle.deck.specs.Deck.{meant, keyword_of, number_alone, asked_by, asked, with_line, Blames, lines, asked_from};

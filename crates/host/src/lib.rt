@@ -1,4 +1,6 @@
 // What an issuer's host means to the switch: its lines, and the five calls by which they change.
+#![tactic(auto)]
+
 ghost use Rattle.std.specs.Prelude.{◌≡◌};
 ghost use Rattle.host.specs.Meaning.{Meaning, Posts, Reverses, Forgets, Turns};
 

@@ -1,4 +1,6 @@
 // Hosts at the bottom, which ask no other.
+#![tactic(auto)]
+
 pub mod limit;
 mod lines;
 mod table;

@@ -1,4 +1,6 @@
 // Tests of the hosts: what docs/HOSTS.md says, row by row.
+#![tactic(auto)]
+
 #[cfg(test)]
 mod limit;
 #[cfg(test)]

@@ -1,4 +1,6 @@
 // The banks that a switch serves, and the routes from cards to the banks that issued them.
+#![tactic(auto)]
+
 mod bank_list;
 pub mod banks;
 pub mod prefix;

@@ -1,2 +1,4 @@
 // The reply to a message.
+#![tactic(auto)]
+
 pub mod reply;

@@ -1,3 +1,5 @@
 // A day's sums, by acquirer and issuer, and the net positions that follow from them.
+#![tactic(auto)]
+
 pub mod day;
 pub mod figures;

@@ -1,4 +1,6 @@
 // The switch.
+#![tactic(auto)]
+
 pub mod forward;
 pub mod messages;
 pub mod switch;

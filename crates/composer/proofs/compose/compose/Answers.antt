@@ -18,12 +18,12 @@ yields out out' mti is r s bs h room =
     let e = yielded_again out mti is bs h room in
     (s.0 ∙ ap (λ c. c.answer) e, s.1 ∙ ap (λ c. c.out) e)
 
-pub returns-in-err-writer : goal.returns-in-err-writer
-returns-in-err-writer c =
+pub returns-in_err-writer : goal.returns-in_err-writer
+returns-in_err-writer c =
     let out = c.args.out.now in
     let is = items c.args.elements.now in
     let set = c.mark-all-marks.ensures in
-    let told = c.in-err-writer.ensures (numbers c.args.elements.now) set in
+    let told = c.in_err-writer.ensures (numbers c.args.elements.now) set in
     let p = err_from_is_err_and c.from-residual.result c.from-residual.ensures.1 in
     let e = ap (λ r. on r out (λ s. all_put s is)) told.0 in
     let steps : Steps (composed out c.args.mti is) c.from-residual.result c.begin.new.out = (p.1 ∙ ap (λ f. Err f) p.2 ∙ sym (ap (λ x. x.answer) e), told.1 ∙ sym (ap (λ x. x.out) e)) in
@@ -34,7 +34,7 @@ returns c =
     let out = c.args.out.now in
     let is = items c.args.elements.now in
     let set = c.mark-all-marks.ensures in
-    let told = c.in-ok-writer.ensures (numbers c.args.elements.now) set in
+    let told = c.in_ok-writer.ensures (numbers c.args.elements.now) set in
     let e = ap (λ r. on r out (λ s. all_put s is)) told in
     let put = c.put-all.ensures in
     let steps : Steps (composed out c.args.mti is) c.put-all.result c.put-all.new.out = (put.0 ∙ sym (ap (λ x. x.answer) e), put.1 ∙ sym (ap (λ x. x.out) e)) in

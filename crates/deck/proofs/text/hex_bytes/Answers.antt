@@ -8,4 +8,4 @@ loop-rest-preserved c =
     let rest = c.loop-rest.rest.now in
     let long : 2 ≤ length rest = search rules in
     pair_more c.args.digits.now _ rest _ c.in-Some.high c.in-Some-hex-digit.low c.loop-rest.invariant long c.in-Some.ensures.value c.in-Some-hex-digit.ensures.value
-    refl c.in-ok-push.ensures.items (take_rest rest 2)
+    refl c.in_ok-push.ensures.items (take_rest rest 2)

@@ -6,32 +6,32 @@ use Rattle.iso8583.specs.Reading.{half, with_second}
 use Rattle.iso8583.proofs.Steps.{after_ok, broken}
 use Rattle.iso8583.proofs.read.read_bitmap.Goals as goal
 
-pub returns-in-err-high : goal.returns-in-err-high
-returns-in-err-high c =
+pub returns-in_err-high : goal.returns-in_err-high
+returns-in_err-high c =
     broken _ (λ high. with_second high c.args.bytes.now) c.from-residual.ensures.1
-    (c.in-err-high.ensures.value ∙ ap (half 4) (take_rest c.args.bytes.now 4))
+    (c.in_err-high.ensures.value ∙ ap (half 4) (take_rest c.args.bytes.now 4))
 
 pub returns-then-not-is-marked : goal.returns-then-not-is-marked
 returns-then-not-is-marked c =
     let bs = c.args.bytes.now in
-    let high = c.in-ok-high.ensures.value ∙ ap (half 4) (take_rest bs 4) in
+    let high = c.in_ok-high.ensures.value ∙ ap (half 4) (take_rest bs 4) in
     let single = ap (λ b. marked b 1) (sym c.joined-first.ensures) ∙ sym c.if-not-is-marked.ensures in
     ap (λ b. Ok b) c.joined-first.ensures ∙ sym (cond-false _ _ _ single) ∙ after_ok (λ h. with_second h bs) high
 
-pub returns-in-err-low : goal.returns-in-err-low
-returns-in-err-low c =
+pub returns-in_err-low : goal.returns-in_err-low
+returns-in_err-low c =
     let bs = c.args.bytes.now in
-    let high = c.in-ok-high.ensures.value ∙ ap (half 4) (take_rest bs 4) in
-    let low = c.in-err-low.ensures.value ∙ ap (half 20) (take_rest bs 20) in
+    let high = c.in_ok-high.ensures.value ∙ ap (half 4) (take_rest bs 4) in
+    let low = c.in_err-low.ensures.value ∙ ap (half 20) (take_rest bs 20) in
     let double = ap (λ b. marked b 1) (sym c.joined-first.ensures) ∙ sym c.if-not-is-marked.ensures in
-    broken _ (λ l. Ok (joined c.in-ok-high.high l)) c.from-residual-in-err-low.ensures.1 low
+    broken _ (λ l. Ok (joined c.in_ok-high.high l)) c.from-residual-in_err-low.ensures.1 low
     ∙ sym (cond-true _ _ _ double) ∙ after_ok (λ h. with_second h bs) high
 
 pub returns : goal.returns
 returns c =
     let bs = c.args.bytes.now in
-    let high = c.in-ok-high.ensures.value ∙ ap (half 4) (take_rest bs 4) in
-    let low = c.in-ok-low.ensures.value ∙ ap (half 20) (take_rest bs 20) in
+    let high = c.in_ok-high.ensures.value ∙ ap (half 4) (take_rest bs 4) in
+    let low = c.in_ok-low.ensures.value ∙ ap (half 20) (take_rest bs 20) in
     let double = ap (λ b. marked b 1) (sym c.joined-first.ensures) ∙ sym c.if-not-is-marked.ensures in
-    ap (λ b. Ok b) c.joined.ensures ∙ after_ok (λ l. Ok (joined c.in-ok-high.high l)) low
+    ap (λ b. Ok b) c.joined.ensures ∙ after_ok (λ l. Ok (joined c.in_ok-high.high l)) low
     ∙ sym (cond-true _ _ _ double) ∙ after_ok (λ h. with_second h bs) high

@@ -10,7 +10,7 @@ use Rattle.iso8583.specs.Walked.{Walked}
 use Rattle.elements.proofs.Rows.{in_table}
 use Rattle.iso8583.proofs.Walks.{Walking, walk_starts, walk_passes, walk_finds, walk_fails, walk_ends, walk_trails, walking_on}
 use Rattle.iso8583.proofs.read.read_elements.Goals as goal
-use Rattle.iso8583.proofs.read.read_elements.Goals.{then-is-marked+in-ok-element, else-is-marked}
+use Rattle.iso8583.proofs.read.read_elements.Goals.{then-is-marked+in_ok-element, else-is-marked}
 
 pub loop-row-init : goal.loop-row-init
 unfolding table
@@ -38,8 +38,8 @@ bounds-found-count c = omega (arith, c.loop-row.invariant.few, c.loop-row.invari
 same_element : (rs : List Row) (bs : List ℕ) (i at : ℕ) → rs ≡ table → sized (get_or rs i blank).length (get_or rs i blank) at (take (length bs - at) (drop at bs)) ≡ sized (get_or table i blank).length (get_or table i blank) at (drop at bs)
 same_element rs bs i at same = λ j. sized (get_or (same j) i blank).length (get_or (same j) i blank) at (take_rest bs at j)
 
-pub returns-in-err-element : goal.returns-in-err-element
-returns-in-err-element c =
+pub returns-in_err-element : goal.returns-in_err-element
+returns-in_err-element c =
     let bs = c.args.bytes.now in
     let bits = c.args.bitmap in
     let i = c.loop-row.row-index in
@@ -48,8 +48,8 @@ returns-in-err-element c =
     let p = err_from_is_err_and c.from-residual.result c.from-residual.ensures.1 in
     let on = ap (λ rs. marked bits (get_or rs i blank).element) (sym same) ∙ sym c.if-is-marked.ensures in
     subst (Walked bs bits) (sym (p.1 ∙ ap (λ f. Err f) p.2))
-    (walk_fails bs bits i at c.loop-row.count c.loop-row.found c.loop-row.invariant c.in-err-element.field-0.0 (omega (arith, ap length same)) on
-    (sym (c.in-err-element.ensures ∙ same_element _ bs i at same)))
+    (walk_fails bs bits i at c.loop-row.count c.loop-row.found c.loop-row.invariant c.in_err-element.field-0.0 (omega (arith, ap length same)) on
+    (sym (c.in_err-element.ensures ∙ same_element _ bs i at same)))
 
 pub loop-row-preserved : goal.loop-row-preserved
 loop-row-preserved c =
@@ -61,11 +61,11 @@ loop-row-preserved c =
     let near : i < length table = omega (arith, ap length same) in
     let mark = ap (λ rs. marked bits (get_or rs i blank).element) (sym same) in
     elim c.if-is-marked.branch [
-      | then-is-marked+in-ok-element w ↦
+      | then-is-marked+in_ok-element w ↦
           walking_on w.at-is w.count-is w.found-is
-          (walk_finds bs bits i at c.loop-row.count c.loop-row.found c.loop-row.invariant w.in-ok-element.element near
+          (walk_finds bs bits i at c.loop-row.count c.loop-row.found c.loop-row.invariant w.in_ok-element.element near
           (mark ∙ sym w.if-is-marked.ensures)
-          (sym (w.in-ok-element.ensures ∙ same_element _ bs i at same)))
+          (sym (w.in_ok-element.ensures ∙ same_element _ bs i at same)))
       | else-is-marked w ↦
           walking_on w.at-is w.count-is w.found-is
           (walk_passes bs bits i at c.loop-row.count c.loop-row.found c.loop-row.invariant near (mark ∙ sym w.if-is-marked.ensures))

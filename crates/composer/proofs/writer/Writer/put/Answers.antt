@@ -15,4 +15,4 @@ brief rs i cs same h ok =
 
 pub lay-field-requires : goal.lay-field-requires
 lay-field-requires c =
-    brief c.rows.result.now c.in-Some.i c.args.chars.now c.rows.ensures c.in-Some.ensures.0 c.in-ok-check.ensures
+    brief c.rows.result.now c.in-Some.i c.args.chars.now c.rows.ensures c.in-Some.ensures.0 c.in_ok-check.ensures

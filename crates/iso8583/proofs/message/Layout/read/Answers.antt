@@ -6,22 +6,22 @@ use Rattle.iso8583.proofs.message.Layout.read.Goals as goal
 
 pub read-elements-requires : goal.read-elements-requires
 read-elements-requires c =
-    body_inside c.args.bytes.now c.in-ok-mti.mti c.in-ok-read-bitmap.field-0 c.in-ok-bitmap.bitmap
-    c.in-ok-mti.ensures.value c.in-ok-read-bitmap.ensures c.in-ok-bitmap.ensures
+    body_inside c.args.bytes.now c.in_ok-mti.mti c.in_ok-read-bitmap.field-0 c.in_ok-bitmap.bitmap
+    c.in_ok-mti.ensures.value c.in_ok-read-bitmap.ensures c.in_ok-bitmap.ensures
 
-pub returns-in-err-found : goal.returns-in-err-found
-returns-in-err-found c =
-    let p = err_from_is_err_and c.from-residual-in-err-found.result c.from-residual-in-err-found.ensures.1 in
+pub returns-in_err-found : goal.returns-in_err-found
+returns-in_err-found c =
+    let p = err_from_is_err_and c.from-residual-in_err-found.result c.from-residual-in_err-found.ensures.1 in
     subst (Read c.args.bytes.now) (sym (p.1 ∙ ap (λ f. Err f) p.2))
-    (read_faulty c.args.bytes.now c.in-ok-mti.mti c.in-ok-read-bitmap.field-0 c.in-ok-bitmap.bitmap
-    c.in-ok-mti.ensures.value c.in-ok-read-bitmap.ensures c.in-ok-bitmap.ensures _ c.in-err-found.ensures)
+    (read_faulty c.args.bytes.now c.in_ok-mti.mti c.in_ok-read-bitmap.field-0 c.in_ok-bitmap.bitmap
+    c.in_ok-mti.ensures.value c.in_ok-read-bitmap.ensures c.in_ok-bitmap.ensures _ c.in_err-found.ensures)
 
 pub returns : goal.returns
 returns c =
-    let told = c.in-ok-found.ensures in
+    let told = c.in_ok-found.ensures in
     record {
       few = told.0;
       found =
-          read_whole c.args.bytes.now c.in-ok-mti.mti c.in-ok-read-bitmap.field-0 c.in-ok-bitmap.bitmap
-          c.in-ok-mti.ensures.value c.in-ok-read-bitmap.ensures c.in-ok-bitmap.ensures _ told.1;
+          read_whole c.args.bytes.now c.in_ok-mti.mti c.in_ok-read-bitmap.field-0 c.in_ok-bitmap.bitmap
+          c.in_ok-mti.ensures.value c.in_ok-read-bitmap.ensures c.in_ok-bitmap.ensures _ told.1;
     }
