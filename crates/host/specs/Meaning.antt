@@ -1,5 +1,5 @@
 -- What a host means, and what each of its calls does to that.
-use Rattle.std.specs.Prelude.{◌≡◌, ℕ, ◌+◌, ◌%◌, ◌^◌, ◌≤◌, Bool, true, false, cond, ◌&&◌, ◌||◌, Some, None, Option, ◌≢◌}
+use Rattle.std.specs.Prelude.{◌≡◌, ℕ, ◌+◌, ◌%◌, ◌^◌, ◌≤◌, Bool, true, false, cond, ◌||◌, Some, Option, ◌≢◌}
 use Rattle.host.specs.declared.ask.Ask.{Ask}
 use Rattle.host.specs.declared.ask.Ask.TheVariants.{Post, Reverse}
 use Rattle.host.specs.declared.ask.ForgetAnswer.{ForgetAnswer}

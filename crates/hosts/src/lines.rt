@@ -46,7 +46,7 @@ impl<const N: usize> Lines<N> {
 
     // Whether some place is free.
     pub(crate) fn has_room(&self) -> bool
-        ensures { «r» ≡ nat_lt 0 (free self.now.rows) }
+        ensures { result ≡ nat_lt 0 (free self.now.rows) }
     {
         match self.free_place() {
             Some(_) => true,

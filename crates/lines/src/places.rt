@@ -45,7 +45,7 @@ impl<const N: usize> Lines<N> {
 
     // Whether some place is free.
     pub fn has_room(&self) -> bool
-        ensures { «r» ≡ nat_lt 0 (free self.now.rows) }
+        ensures { result ≡ nat_lt 0 (free self.now.rows) }
     {
         match self.free_place() {
             Some(_) => true,

@@ -22,20 +22,20 @@ pub returns-in_err-writer : goal.returns-in_err-writer
 returns-in_err-writer c =
     let out = c.args.out.now in
     let is = items c.args.elements.now in
-    let set = c.mark-all-marks.ensures in
+    let set = c.mark_all-marks.ensures in
     let told = c.in_err-writer.ensures (numbers c.args.elements.now) set in
-    let p = err_from_is_err_and c.from-residual.result c.from-residual.ensures.1 in
+    let p = err_from_is_err_and c.from_residual.result c.from_residual.ensures.1 in
     let e = ap (λ r. on r out (λ s. all_put s is)) told.0 in
-    let steps : Steps (composed out c.args.mti is) c.from-residual.result c.begin.new.out = (p.1 ∙ ap (λ f. Err f) p.2 ∙ sym (ap (λ x. x.answer) e), told.1 ∙ sym (ap (λ x. x.out) e)) in
+    let steps : Steps (composed out c.args.mti is) c.from_residual.result c.begin.new.out = (p.1 ∙ ap (λ f. Err f) p.2 ∙ sym (ap (λ x. x.answer) e), told.1 ∙ sym (ap (λ x. x.out) e)) in
     record { steps = steps; read_again = reads out _ c.args.mti is _ set.bytes steps; yielded_again = yields out _ c.args.mti is _ steps }
 
 pub returns : goal.returns
 returns c =
     let out = c.args.out.now in
     let is = items c.args.elements.now in
-    let set = c.mark-all-marks.ensures in
+    let set = c.mark_all-marks.ensures in
     let told = c.in_ok-writer.ensures (numbers c.args.elements.now) set in
     let e = ap (λ r. on r out (λ s. all_put s is)) told in
-    let put = c.put-all.ensures in
-    let steps : Steps (composed out c.args.mti is) c.put-all.result c.put-all.new.out = (put.0 ∙ sym (ap (λ x. x.answer) e), put.1 ∙ sym (ap (λ x. x.out) e)) in
+    let put = c.put_all.ensures in
+    let steps : Steps (composed out c.args.mti is) c.put_all.result c.put_all.new.out = (put.0 ∙ sym (ap (λ x. x.answer) e), put.1 ∙ sym (ap (λ x. x.out) e)) in
     record { steps = steps; read_again = reads out _ c.args.mti is _ set.bytes steps; yielded_again = yields out _ c.args.mti is _ steps }

@@ -41,7 +41,7 @@ returns c =
       omega arith,
       c.lay-2.ensures ∙ elim c.if-lead-eq2.branch [
         | then-lead-eq2 w ↦
-            (λ i. laid ((w.out-is ∙ w.lay.ensures ∙ ap (laid out at) w.spell-length.ensures) i) (at + lead_is i) cs)
+            (λ i. laid ((w.out-is ∙ w.lay.ensures ∙ ap (laid out at) w.spell_length.ensures) i) (at + lead_is i) cs)
             ∙ after_digits l out cs at (sym lead_is ∙ w.if-lead-eq2.true) (omega arith)
         | else-lead-eq2 w ↦
             (λ i. laid (w.out-is i) (at + lead_is i) cs) ∙ alone l out cs at (λ e. w.if-lead-eq2.false (lead_is ∙ e))

@@ -11,8 +11,8 @@ returns-in-Err c =
     let some : 0 < length c.loop-rest.rest.now = omega (arith, false-eqb _ 0 c.loop-rest-test.ensures) in
     blames_too c.in-Err.fault (wrong c.loop-rest.invariant _ some c.cut.ensures.front) c.in-Err.ensures
 
-pub overflow-add-line : goal.overflow-add-line
-overflow-add-line c =
+pub overflow_add-line : goal.overflow_add-line
+overflow_add-line c =
     let some : 0 < length c.loop-rest.rest.now = omega (arith, false-eqb _ 0 c.loop-rest-test.ensures) in
     omega (arith, c.loop-rest.invariant.few)
 
@@ -24,7 +24,7 @@ loop-rest-smaller c =
 pub loop-rest-preserved : goal.loop-rest-preserved
 loop-rest-preserved c =
     let some : 0 < length c.loop-rest.rest.now = omega (arith, false-eqb _ 0 c.loop-rest-test.ensures) in
-    next c.loop-rest.invariant _ _ _ some c.cut.ensures.front c.cut.ensures.back c.in-default.ensures
+    next c.loop-rest.invariant _ _ _ some c.cut.ensures.front c.cut.ensures.back c.in_default.ensures
 
 pub returns : goal.returns
 returns c = done_all c.loop-rest.invariant (true-eqb _ 0 c.loop-rest-test.ensures)

@@ -7,5 +7,5 @@ pub loop-rest-preserved : goal.loop-rest-preserved
 loop-rest-preserved c =
     let rest = c.loop-rest.rest.now in
     let long : 2 ≤ length rest = search rules in
-    pair_more c.args.digits.now _ rest _ c.in-Some.high c.in-Some-hex-digit.low c.loop-rest.invariant long c.in-Some.ensures.value c.in-Some-hex-digit.ensures.value
+    pair_more c.args.digits.now _ rest _ c.in-Some.high c.in-Some-hex_digit.low c.loop-rest.invariant long c.in-Some.ensures.value c.in-Some-hex_digit.ensures.value
     refl c.in_ok-push.ensures.items (take_rest rest 2)

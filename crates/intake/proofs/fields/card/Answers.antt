@@ -8,8 +8,8 @@ digits-requires c =
     let f = figured_at 2 c.element.result.chars.now (omega arith) c.element.ensures.sound in
     (f.some, f.most, f.decimals)
 
-pub overflow-cast-result : goal.overflow-cast-result
-overflow-cast-result c = let f = figured_at 2 c.element.result.chars.now (omega arith) c.element.ensures.sound in omega (arith, f.most)
+pub overflow_cast-result : goal.overflow_cast-result
+overflow_cast-result c = let f = figured_at 2 c.element.result.chars.now (omega arith) c.element.ensures.sound in omega (arith, f.most)
 
 pub returns : goal.returns
 returns c =

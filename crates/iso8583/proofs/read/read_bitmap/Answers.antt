@@ -8,14 +8,14 @@ use Rattle.iso8583.proofs.read.read_bitmap.Goals as goal
 
 pub returns-in_err-high : goal.returns-in_err-high
 returns-in_err-high c =
-    broken _ (λ high. with_second high c.args.bytes.now) c.from-residual.ensures.1
+    broken _ (λ high. with_second high c.args.bytes.now) c.from_residual.ensures.1
     (c.in_err-high.ensures.value ∙ ap (half 4) (take_rest c.args.bytes.now 4))
 
-pub returns-then-not-is-marked : goal.returns-then-not-is-marked
-returns-then-not-is-marked c =
+pub returns-then-not-is_marked : goal.returns-then-not-is_marked
+returns-then-not-is_marked c =
     let bs = c.args.bytes.now in
     let high = c.in_ok-high.ensures.value ∙ ap (half 4) (take_rest bs 4) in
-    let single = ap (λ b. marked b 1) (sym c.joined-first.ensures) ∙ sym c.if-not-is-marked.ensures in
+    let single = ap (λ b. marked b 1) (sym c.joined-first.ensures) ∙ sym c.if-not-is_marked.ensures in
     ap (λ b. Ok b) c.joined-first.ensures ∙ sym (cond-false _ _ _ single) ∙ after_ok (λ h. with_second h bs) high
 
 pub returns-in_err-low : goal.returns-in_err-low
@@ -23,8 +23,8 @@ returns-in_err-low c =
     let bs = c.args.bytes.now in
     let high = c.in_ok-high.ensures.value ∙ ap (half 4) (take_rest bs 4) in
     let low = c.in_err-low.ensures.value ∙ ap (half 20) (take_rest bs 20) in
-    let double = ap (λ b. marked b 1) (sym c.joined-first.ensures) ∙ sym c.if-not-is-marked.ensures in
-    broken _ (λ l. Ok (joined c.in_ok-high.high l)) c.from-residual-in_err-low.ensures.1 low
+    let double = ap (λ b. marked b 1) (sym c.joined-first.ensures) ∙ sym c.if-not-is_marked.ensures in
+    broken _ (λ l. Ok (joined c.in_ok-high.high l)) c.from_residual-in_err-low.ensures.1 low
     ∙ sym (cond-true _ _ _ double) ∙ after_ok (λ h. with_second h bs) high
 
 pub returns : goal.returns
@@ -32,6 +32,6 @@ returns c =
     let bs = c.args.bytes.now in
     let high = c.in_ok-high.ensures.value ∙ ap (half 4) (take_rest bs 4) in
     let low = c.in_ok-low.ensures.value ∙ ap (half 20) (take_rest bs 20) in
-    let double = ap (λ b. marked b 1) (sym c.joined-first.ensures) ∙ sym c.if-not-is-marked.ensures in
+    let double = ap (λ b. marked b 1) (sym c.joined-first.ensures) ∙ sym c.if-not-is_marked.ensures in
     ap (λ b. Ok b) c.joined.ensures ∙ after_ok (λ l. Ok (joined c.in_ok-high.high l)) low
     ∙ sym (cond-true _ _ _ double) ∙ after_ok (λ h. with_second h bs) high

@@ -25,4 +25,4 @@ returns-in-Some c =
 
 pub returns : goal.returns
 returns c =
-    decided c.args.row.now c.args.at c.args.start c.args.n c.args.rest.now None (omega arith) c.in-default.ensures
+    decided c.args.row.now c.args.at c.args.start c.args.n c.args.rest.now None (omega arith) c.in_default.ensures

@@ -17,6 +17,6 @@ varied row at limit n (a ∷ b ∷ cs) e l d w =
 pub returns-in-Some : goal.returns-in-Some
 returns-in-Some c =
     let cs = c.args.rest.now in
-    c.read-characters-in-Some.ensures
+    c.read_characters-in-Some.ensures
     ∙ ap (characters c.args.row.now c.args.at (c.args.at + 2) c.in-Some.n) (take_rest cs 2)
     ∙ varied c.args.row.now c.args.at c.in-UpTo.limit c.in-Some.n cs c.in-UpTo.is (search rules) c.in-Some.ensures (sym c.if-admits.ensures)

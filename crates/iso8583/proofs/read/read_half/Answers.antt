@@ -8,15 +8,15 @@ use Rattle.iso8583.proofs.read.read_half.Goals as goal
 pub loop-i-init : goal.loop-i-init
 loop-i-init c = none_yet hexadecimal 16 16 c.args.at c.args.rest.now
 
-pub returns-in-default : goal.returns-in-default
-returns-in-default c =
-    record { long = tt; value = stopped hexadecimal 16 16 c.args.at c.args.rest.now (λ i. Bitmap i) _ c.loop-i.i c.loop-i.half c.loop-i-test.true c.loop-i.invariant c.in-default.ensures }
+pub returns-in_default : goal.returns-in_default
+returns-in_default c =
+    record { long = tt; value = stopped hexadecimal 16 16 c.args.at c.args.rest.now (λ i. Bitmap i) _ c.loop-i.i c.loop-i.half c.loop-i-test.true c.loop-i.invariant c.in_default.ensures }
 
-pub overflow-mul-half : goal.overflow-mul-half
-overflow-mul-half c = omega (arith, (grows 16 16 _ _ _ c.loop-i-test.true c.loop-i.invariant.small c.in-Some.ensures.3).most)
+pub overflow_mul-half : goal.overflow_mul-half
+overflow_mul-half c = omega (arith, (grows 16 16 _ _ _ c.loop-i-test.true c.loop-i.invariant.small c.in-Some.ensures.3).most)
 
-pub overflow-add-half : goal.overflow-add-half
-overflow-add-half c = omega (arith, (grows 16 16 _ _ _ c.loop-i-test.true c.loop-i.invariant.small c.in-Some.ensures.3).most)
+pub overflow_add-half : goal.overflow_add-half
+overflow_add-half c = omega (arith, (grows 16 16 _ _ _ c.loop-i-test.true c.loop-i.invariant.small c.in-Some.ensures.3).most)
 
 pub loop-i-preserved : goal.loop-i-preserved
 loop-i-preserved c =

@@ -8,20 +8,20 @@ use Rattle.iso8583.proofs.read.read_mti.Goals as goal
 pub loop-place-init : goal.loop-place-init
 loop-place-init c = none_yet decimal 10 4 0 c.args.bytes.now
 
-pub returns-in-default : goal.returns-in-default
-returns-in-default c =
+pub returns-in_default : goal.returns-in_default
+returns-in_default c =
     record {
       long = tt;
       value = let e : 0 + c.loop-place.place ≡ c.loop-place.place = omega arith in
           ap (λ i. Err (Mti i)) (sym e)
-          ∙ stopped decimal 10 4 0 c.args.bytes.now (λ i. Mti i) _ c.loop-place.place c.loop-place.mti c.loop-place-test.true c.loop-place.invariant c.in-default.ensures;
+          ∙ stopped decimal 10 4 0 c.args.bytes.now (λ i. Mti i) _ c.loop-place.place c.loop-place.mti c.loop-place-test.true c.loop-place.invariant c.in_default.ensures;
     }
 
-pub overflow-mul-mti : goal.overflow-mul-mti
-overflow-mul-mti c = omega (arith, (grows 10 4 _ _ _ c.loop-place-test.true c.loop-place.invariant.small c.in-Some.ensures.3).most)
+pub overflow_mul-mti : goal.overflow_mul-mti
+overflow_mul-mti c = omega (arith, (grows 10 4 _ _ _ c.loop-place-test.true c.loop-place.invariant.small c.in-Some.ensures.3).most)
 
-pub overflow-add-mti : goal.overflow-add-mti
-overflow-add-mti c = omega (arith, (grows 10 4 _ _ _ c.loop-place-test.true c.loop-place.invariant.small c.in-Some.ensures.3).most)
+pub overflow_add-mti : goal.overflow_add-mti
+overflow_add-mti c = omega (arith, (grows 10 4 _ _ _ c.loop-place-test.true c.loop-place.invariant.small c.in-Some.ensures.3).most)
 
 pub loop-place-preserved : goal.loop-place-preserved
 loop-place-preserved c =

@@ -8,7 +8,7 @@ use Rattle.replies.proofs.reply.put_all.Goals as goal
 pub returns-in_err-put : goal.returns-in_err-put
 unfolding items_for
 returns-in_err-put c =
-    let p = err_from_is_err_and c.from-residual.result c.from-residual.ensures.1 in
+    let p = err_from_is_err_and c.from_residual.result c.from_residual.ensures.1 in
     let e = c.loop-number.invariant ∙ stops c.replied-number-items.result.now replied c.replied-number-items.ensures c.loop-number.number-index (told (bytes_of c.args.message.now) c.args.code) c.loop-number.out c.loop-number.writer _ c.put.new.out c.put.new.writer c.loop-number-test.true c.in_err-put.ensures in
     (p.1 ∙ ap (λ f. Err f) p.2 ∙ sym (ap (λ x. x.answer) e), sym (ap (λ x. x.out) e))
 

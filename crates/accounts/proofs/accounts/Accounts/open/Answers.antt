@@ -5,18 +5,18 @@ use Rattle.accounts.specs.Opening.{single, placed}
 use Rattle.accounts.proofs.Opens.{joins, refuses, placed_full}
 use Rattle.accounts.proofs.accounts.Accounts.open.Goals as goal
 
-pub returns-then-not-may-join : goal.returns-then-not-may-join
-returns-then-not-may-join c =
-    refuses c.args.accounts.now c.loop-i.i _ c.loop-i.places (omega arith) (omega arith) c.loop-i.invariant.0 c.loop-i.invariant.1 (sym c.may-join.ensures ∙ c.if-not-may-join.true)
+pub returns-then-not-may_join : goal.returns-then-not-may_join
+returns-then-not-may_join c =
+    refuses c.args.accounts.now c.loop-i.i _ c.loop-i.places (omega arith) (omega arith) c.loop-i.invariant.0 c.loop-i.invariant.1 (sym c.may_join.ensures ∙ c.if-not-may_join.true)
 
 pub loop-i-preserved : goal.loop-i-preserved
 loop-i-preserved c =
-    joins c.args.accounts.now c.loop-i.i _ c.loop-i.places (omega arith) (omega arith) c.loop-i.invariant.0 c.loop-i.invariant.1 (sym c.may-join.ensures ∙ c.if-not-may-join.false)
+    joins c.args.accounts.now c.loop-i.i _ c.loop-i.places (omega arith) (omega arith) c.loop-i.invariant.0 c.loop-i.invariant.1 (sym c.may_join.ensures ∙ c.if-not-may_join.false)
 
-pub invariant-of-result : goal.invariant-of-result
-invariant-of-result c =
+pub invariant_of-result : goal.invariant_of-result
+invariant_of-result c =
     let all = c.args.accounts.now in
-    (ap length c.loop-i.invariant.1 ∙ placed_full (take c.loop-i.i all) (omega (arith, length-take c.loop-i.i all)), tt)
+    ap length c.loop-i.invariant.1 ∙ placed_full (take c.loop-i.i all) (omega (arith, length-take c.loop-i.i all))
 
 pub returns : goal.returns
 returns c =

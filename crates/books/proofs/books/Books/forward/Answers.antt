@@ -5,8 +5,8 @@ use Rattle.books.specs.Sizes.{all_small}
 use Rattle.books.proofs.Bounds.{forwarding_within, small-set, small_here}
 use Rattle.books.proofs.books.Books.forward.Goals as goal
 
-pub invariant-of-self : goal.invariant-of-self
-invariant-of-self c =
+pub invariant_of-self : goal.invariant_of-self
+invariant_of-self c =
     let s = c.args.self.now in
     let e = c.args.entry.now in
     let size = small_here s.journal.places c.args.place e s.small c.requires.next.there in

@@ -4,8 +4,8 @@ use Rattle.sums.specs.Days.{sums_of}
 use Rattle.journal.specs.Places.{taken, undone}
 use Rattle.books.proofs.books.Books.new.Goals as goal
 
-pub invariant-of-result : goal.invariant-of-result
-invariant-of-result c = (
+pub invariant_of-result : goal.invariant_of-result
+invariant_of-result c = (
   omega arith,
   (
     empty_small _ 512 c.new.ensures,

@@ -15,8 +15,13 @@ count-requires c =
     let s = c.args.self.now in
     record { size = c.requires.size; room = room_for_one s.journal.places c.args.place c.args.entry (sums_of s.today) s.journal.full c.requires.lowest (record { approvals = s.approved; reversals = s.reversed }) }
 
-pub invariant-of-self : goal.invariant-of-self
-invariant-of-self c =
+pub invariant_of-self : goal.invariant_of-self
+invariant_of-self c =
     let s = c.args.self.now in
     let w = taking_within s.journal.places c.args.place c.args.entry (sums_of s.today) s.journal.full c.requires.lowest (record { approvals = s.approved; reversals = s.reversed }) _ _ c.put.ensures c.count.ensures c.requires.size in
-    (s.near, (ap all_small c.put.ensures ∙ small-set s.journal.places c.args.place (Some c.args.entry) s.small c.requires.size, (w.approvals, (w.reversals, tt))))
+    record {
+      near = s.near;
+      small = ap all_small c.put.ensures ∙ small-set s.journal.places c.args.place (Some c.args.entry) s.small c.requires.size;
+      approved = w.approvals;
+      reversed = w.reversals;
+    }

@@ -6,7 +6,7 @@ use Rattle.elements.specs.Table.{table, blank}
 use Rattle.composer.specs.Writing.{chosen}
 use Rattle.elements.proofs.Rows.{in_table}
 use Rattle.composer.proofs.writer.Writer.next.Goals as goal
-use Rattle.composer.proofs.writer.Writer.next.Goals.{else-i-self-via-then-i-self+else-is-marked, else-i-self-via-else-i-self}
+use Rattle.composer.proofs.writer.Writer.next.Goals.{else-i-self-via-then-i-self+else-is_marked, else-i-self-via-else-i-self}
 
 module _ (bits row i : ℕ) (h : i < length table) where
   opened : row ≤ i → chosen (drop (max row i) table) bits ≡ chosen (get_or table i blank ∷ drop (i + 1) table) bits
@@ -28,8 +28,8 @@ loop-i-init c =
     let e : row ≡ max row 0 = omega arith in
     ap (λ n. chosen (drop n table) c.args.self.now.bitmap) e
 
-pub is-marked-requires : goal.is-marked-requires
-is-marked-requires c =
+pub is_marked-requires : goal.is_marked-requires
+is_marked-requires c =
     let i = c.loop-i.i in
     let same = c.rows-row-items.ensures in
     let range = in_table i blank (omega (arith, ap length same)) in
@@ -43,19 +43,19 @@ loop-i-preserved c =
     let bits = c.args.self.now.bitmap in
     let same = c.rows-row-items.ensures in
     elim c.else-i-self.branch [
-      | else-i-self-via-then-i-self+else-is-marked w ↦
-          c.loop-i.invariant ∙ passed bits row i (omega (arith, ap length same)) w.if-i-self.true (ap (λ rs. marked bits (get_or rs i blank).element) (sym same) ∙ sym w.if-is-marked.ensures)
+      | else-i-self-via-then-i-self+else-is_marked w ↦
+          c.loop-i.invariant ∙ passed bits row i (omega (arith, ap length same)) w.if-i-self.true (ap (λ rs. marked bits (get_or rs i blank).element) (sym same) ∙ sym w.if-is_marked.ensures)
       | else-i-self-via-else-i-self w ↦
           (let e : max row i ≡ max row (i + 1) = omega (arith, w.if-i-self.false) in c.loop-i.invariant ∙ ap (λ n. chosen (drop n table) bits) e)
     ]
 
-pub returns-then-is-marked : goal.returns-then-is-marked
-returns-then-is-marked c =
+pub returns-then-is_marked : goal.returns-then-is_marked
+returns-then-is_marked c =
     let i = c.loop-i.i in
     let bits = c.args.self.now.bitmap in
     let same = c.rows-row-items.ensures in
     let near : i < length table = omega (arith, ap length same) in
-    (near, c.loop-i.invariant ∙ found bits c.args.self.now.row i near c.if-i-self.true (ap (λ rs. marked bits (get_or rs i blank).element) (sym same) ∙ sym c.if-is-marked.ensures))
+    (near, c.loop-i.invariant ∙ found bits c.args.self.now.row i near c.if-i-self.true (ap (λ rs. marked bits (get_or rs i blank).element) (sym same) ∙ sym c.if-is_marked.ensures))
 
 pub returns : goal.returns
 returns c =

@@ -13,6 +13,6 @@ brief rs i cs same h ok =
     let c = ok ∙ ap (λ l. checked (get_or l i blank) cs) same in
     admitted_short row.length (length cs) (short_in_table i blank h) (chosen_ok (admits row.length (length cs)) _ _ tt (sym c)).0
 
-pub lay-field-requires : goal.lay-field-requires
-lay-field-requires c =
+pub lay_field-requires : goal.lay_field-requires
+lay_field-requires c =
     brief c.rows.result.now c.in-Some.i c.args.chars.now c.rows.ensures c.in-Some.ensures.0 c.in_ok-check.ensures

@@ -5,8 +5,8 @@ use denote.Struct.Props.{≡_prop}
 use Rattle.hosts.proofs.Kept.{once-set, ours_taken, ours_free, sole_taken, cleared_kept, given_up, nothing_there}
 use Rattle.hosts.proofs.table.Lines.clear.Goals as goal
 
-pub invariant-of-self : goal.invariant-of-self
-invariant-of-self g c =
+pub invariant_of-self : goal.invariant_of-self
+invariant_of-self g c =
     let ps = c.args.self.now.rows in
     let i = c.in-Some.i in
     let a = c.args.issuer in
@@ -25,5 +25,5 @@ returns-in-Some g c =
     let told = c.in-Some.ensures in
     given_up ps i a b told.0 told.1 (∥∥₁_elim c.args.self.now.once (≡_prop coded_bool _ _) (λ o. cleared_kept ps i a b told.0 (sole_taken ps i a b o told.0 told.1)))
 
-pub returns-in-default : goal.returns-in-default
-returns-in-default g c = nothing_there c.args.self.now.rows c.args.issuer c.args.number c.in-default.ensures
+pub returns-in_default : goal.returns-in_default
+returns-in_default g c = nothing_there c.args.self.now.rows c.args.issuer c.args.number c.in_default.ensures

@@ -3,8 +3,8 @@ use Rattle.std.proofs.Common.{None}
 use Rattle.hosts.proofs.Kept.{empty_shown, empty_once, empty_free}
 use Rattle.hosts.proofs.table.Lines.new.Goals as goal
 
-pub invariant-of-result : goal.invariant-of-result
-invariant-of-result g c = (length-replicate g.row.N None, (∣ empty_once g.row.N ∣₁, tt))
+pub invariant_of-result : goal.invariant_of-result
+invariant_of-result g c = (length-replicate g.row.N None, (∣ empty_once g.row.N ∣₁, tt))
 
 pub returns : goal.returns
 returns g c = record { lines = empty_shown g.row.N; free = empty_free g.row.N }

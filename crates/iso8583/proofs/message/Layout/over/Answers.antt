@@ -4,8 +4,8 @@ use Rattle.iso8583.proofs.Tiles.{tiled}
 use Rattle.iso8583.proofs.Wholes.{bits_long}
 use Rattle.iso8583.proofs.message.Layout.over.Goals as goal
 
-pub invariant-of-result : goal.invariant-of-result
-invariant-of-result c =
+pub invariant_of-result : goal.invariant_of-result
+invariant_of-result c =
     let bs = c.args.bytes.now in
     let l = c.args.self in
     let w = taken_apart bs l.mti l.bitmap (take l.count l.found) c.requires.found in

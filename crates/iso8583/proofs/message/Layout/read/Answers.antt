@@ -4,17 +4,17 @@ use Rattle.iso8583.specs.Messages.{Read}
 use Rattle.iso8583.proofs.Wholes.{body_inside, read_whole, read_faulty}
 use Rattle.iso8583.proofs.message.Layout.read.Goals as goal
 
-pub read-elements-requires : goal.read-elements-requires
-read-elements-requires c =
-    body_inside c.args.bytes.now c.in_ok-mti.mti c.in_ok-read-bitmap.field-0 c.in_ok-bitmap.bitmap
-    c.in_ok-mti.ensures.value c.in_ok-read-bitmap.ensures c.in_ok-bitmap.ensures
+pub read_elements-requires : goal.read_elements-requires
+read_elements-requires c =
+    body_inside c.args.bytes.now c.in_ok-mti.mti c.in_ok-read_bitmap.field-0 c.in_ok-bitmap.bitmap
+    c.in_ok-mti.ensures.value c.in_ok-read_bitmap.ensures c.in_ok-bitmap.ensures
 
 pub returns-in_err-found : goal.returns-in_err-found
 returns-in_err-found c =
-    let p = err_from_is_err_and c.from-residual-in_err-found.result c.from-residual-in_err-found.ensures.1 in
+    let p = err_from_is_err_and c.from_residual-in_err-found.result c.from_residual-in_err-found.ensures.1 in
     subst (Read c.args.bytes.now) (sym (p.1 ∙ ap (λ f. Err f) p.2))
-    (read_faulty c.args.bytes.now c.in_ok-mti.mti c.in_ok-read-bitmap.field-0 c.in_ok-bitmap.bitmap
-    c.in_ok-mti.ensures.value c.in_ok-read-bitmap.ensures c.in_ok-bitmap.ensures _ c.in_err-found.ensures)
+    (read_faulty c.args.bytes.now c.in_ok-mti.mti c.in_ok-read_bitmap.field-0 c.in_ok-bitmap.bitmap
+    c.in_ok-mti.ensures.value c.in_ok-read_bitmap.ensures c.in_ok-bitmap.ensures _ c.in_err-found.ensures)
 
 pub returns : goal.returns
 returns c =
@@ -22,6 +22,6 @@ returns c =
     record {
       few = told.0;
       found =
-          read_whole c.args.bytes.now c.in_ok-mti.mti c.in_ok-read-bitmap.field-0 c.in_ok-bitmap.bitmap
-          c.in_ok-mti.ensures.value c.in_ok-read-bitmap.ensures c.in_ok-bitmap.ensures _ told.1;
+          read_whole c.args.bytes.now c.in_ok-mti.mti c.in_ok-read_bitmap.field-0 c.in_ok-bitmap.bitmap
+          c.in_ok-mti.ensures.value c.in_ok-read_bitmap.ensures c.in_ok-bitmap.ensures _ told.1;
     }

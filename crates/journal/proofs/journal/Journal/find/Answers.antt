@@ -26,4 +26,4 @@ sought ps n (Some p) full once f =
 pub returns : goal.returns
 returns c =
     let j = c.args.self.now in
-    sought j.places c.args.number c.first-numbered.result j.full j.apart c.first-numbered.ensures
+    sought j.places c.args.number c.first_numbered.result j.full j.apart c.first_numbered.ensures

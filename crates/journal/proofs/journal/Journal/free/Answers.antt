@@ -13,4 +13,4 @@ lowest ps (Some i) full f =
     let inside = f.inside in (lowest_at ps i f.before (omega arith) (empty (get_or ps i None) f.there), inside)
 
 pub returns : goal.returns
-returns c = lowest c.args.self.now.places c.first-free.result c.args.self.now.full c.first-free.ensures
+returns c = lowest c.args.self.now.places c.first_free.result c.args.self.now.full c.first_free.ensures

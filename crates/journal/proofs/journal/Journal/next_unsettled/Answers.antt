@@ -14,4 +14,4 @@ next ps mark None hm full none = λ i u. let inside = in_row ps Unsettled (λ x.
 next ps mark (Some p) hm full f = next_of ps mark hm p.0 p.1 f
 
 pub returns : goal.returns
-returns c = next c.args.self.now.places c.args.mark c.first-from.result c.requires c.args.self.now.full c.first-from.ensures
+returns c = next c.args.self.now.places c.args.mark c.first_from.result c.requires c.args.self.now.full c.first_from.ensures

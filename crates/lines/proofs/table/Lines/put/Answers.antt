@@ -11,8 +11,8 @@ returns-in-Absent g c =
     let k = ∥∥₁_elim s.once (≡_prop coded_bool _ _) (λ o. kept_present s.rows c.args.issuer c.args.number o) in
     leaves_cleared s.rows _ c.args.issuer c.args.number _ c.in-Absent.is k c.clear.ensures
 
-pub returns-in-default : goal.returns-in-default
-returns-in-default g c =
+pub returns-in_default : goal.returns-in_default
+returns-in_default g c =
     let s = c.args.self.now in
     let k = ∥∥₁_elim s.once (≡_prop coded_bool _ _) (λ o. kept_present s.rows c.args.issuer c.args.number o) in
-    leaves_stored s.rows _ c.args.issuer c.args.number _ _ c.in-default.not-Absent k c.store-stored.ensures c.requires
+    leaves_stored s.rows _ c.args.issuer c.args.number _ _ c.in_default.not-Absent k c.store-stored.ensures c.requires

@@ -4,8 +4,8 @@ use Rattle.lines.specs.Rows.{row}
 use Rattle.lines.proofs.Kept.{Ours, own, once-set, ours_taken, ours_free, sole_taken, sole_free, alone_row, overwritten, added}
 use Rattle.lines.proofs.table.Lines.store.Goals as goal
 
-pub invariant-of-self : goal.invariant-of-self
-invariant-of-self g c =
+pub invariant_of-self : goal.invariant_of-self
+invariant_of-self g c =
     let ps = c.args.self.now.rows in
     let i = c.in-Some.i in
     let a = c.args.issuer in

@@ -16,6 +16,6 @@ pub returns-in_err-found : goal.returns-in_err-found
 returns-in_err-found c =
     let s = c.args.self.now in
     let card = c.args.card.now in
-    let r = c.from-residual.result in
-    let e : r ≡ route_of (routes_of s) card = c.from-residual.ensures ∙ told (routes_of s) card None c.in_err-found.ensures in
+    let r = c.from_residual.result in
+    let e : r ≡ route_of (routes_of s) card = c.from_residual.ensures ∙ told (routes_of s) card None c.in_err-found.ensures in
     record { which = e; longest = issued (routes_of s) card r e; within = issuer_near (routes_of s) card r s.banks e }

@@ -10,9 +10,9 @@ pub count-requires : goal.count-requires
 unfolding sums_of
 count-requires c = (room_holds c.args.kind c.args.self.now.pairs c.args.acquirer c.args.issuer c.args.side c.requires.room, c.requires.small)
 
-pub invariant-of-self : goal.invariant-of-self
+pub invariant_of-self : goal.invariant_of-self
 unfolding sums_of
-invariant-of-self c =
+invariant_of-self c =
     let d = c.args.self.now in
     let t = d.pairs in
     let s = table_sums t in

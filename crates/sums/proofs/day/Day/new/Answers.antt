@@ -5,8 +5,8 @@ use Rattle.sums.proofs.Empty.{even_square, even_sums}
 use Rattle.sums.proofs.Within.{none_approved, none_reversed, approved_rises, reversed_rises}
 use Rattle.sums.proofs.day.Day.new.Goals as goal
 
-pub invariant-of-result : goal.invariant-of-result
-invariant-of-result c =
+pub invariant_of-result : goal.invariant_of-result
+invariant_of-result c =
     let x = c.none.result in
     let e = sym (even_sums x c.none.ensures) in (
       refl,

@@ -5,4 +5,4 @@ use Rattle.switch.proofs.switch.Switch.request.Goals as goal
 
 pub returns : goal.returns
 returns g c =
-    requested (view g.H.Host.meaning c.args.self.now) _ c.args.number c.args.issuer c.args.place c.args.terms c.post-answer.result (g.H.Host.meaning c.post-answer.new.self) c.code-by-code.result (search rules) c.code-by-code.ensures (search rules)
+    requested (view g.H.Host.meaning c.args.self.now) _ c.args.number c.args.issuer c.args.place c.args.terms c.post-answer.result (g.H.Host.meaning c.post-answer.new.self) c.code_by-code.result (search rules) c.code_by-code.ensures (search rules)
