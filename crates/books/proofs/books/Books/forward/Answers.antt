@@ -12,4 +12,9 @@ invariant_of-self c =
     let size = small_here s.journal.places c.args.place e s.small c.requires.next.there in
     let places = c.put.ensures ∙ ap (λ x. set s.journal.places c.args.place (Some x)) c.becomes.ensures in
     let w = forwarding_within s.journal.places _ c.args.place e c.args.state (sums_of s.today) s.journal.full c.requires.next.inside c.requires.next.there c.requires.kept places (record { approvals = s.approved; reversals = s.reversed }) in
-    (omega arith, (ap all_small places ∙ small-set s.journal.places c.args.place (Some (in_state c.args.state e)) s.small size, (w.approvals, (w.reversals, tt))))
+    record {
+      near = omega arith;
+      small = ap all_small places ∙ small-set s.journal.places c.args.place (Some (in_state c.args.state e)) s.small size;
+      approved = w.approvals;
+      reversed = w.reversals;
+    }

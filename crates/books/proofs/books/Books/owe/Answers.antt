@@ -21,4 +21,9 @@ invariant_of-self c =
     let size = small_here s.journal.places c.args.place e s.small c.requires.here.there in
     let places = c.put.ensures ∙ ap (λ x. set s.journal.places c.args.place (Some x)) c.owing.ensures in
     let w = owing_within s.journal.places c.args.place e (sums_of s.today) s.journal.full c.requires.here.inside c.requires.here.there c.requires.settled (record { approvals = s.approved; reversals = s.reversed }) _ _ places c.count_reversal.ensures size in
-    (s.near, (ap all_small places ∙ small-set s.journal.places c.args.place (Some (owing e)) s.small (small_owing e size), (w.approvals, (w.reversals, tt))))
+    record {
+      near = s.near;
+      small = ap all_small places ∙ small-set s.journal.places c.args.place (Some (owing e)) s.small (small_owing e size);
+      approved = w.approvals;
+      reversed = w.reversals;
+    }

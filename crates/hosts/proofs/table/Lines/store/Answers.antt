@@ -12,17 +12,14 @@ invariant_of-self g c =
     let b = c.args.number in
     let l = c.args.line in
     let told = c.in-Some.ensures in
-    let q = Some (row a b l) in (
-      length-set ps i q ∙ c.args.self.now.full,
-      (
-        ∥∥₁_map c.args.self.now.once (λ o.
-            ⊎_elim
-            (λ t. once-set ps i a b q o told.0 (ours_taken _ a b t.0) (ours_taken q a b (own a b l)) (sole_taken ps i a b o told.0 t.0) (alone_row a b l c.requires))
-            (λ t. once-set ps i a b q o told.0 (subst (λ p. Ours p a b) (sym t.0) (ours_free a b)) (ours_taken q a b (own a b l)) (sole_free ps i a b t.1) (alone_row a b l c.requires))
-            told.1),
-        tt,
-      ),
-    )
+    let q = Some (row a b l) in record {
+      full = length-set ps i q ∙ c.args.self.now.full;
+      once = ∥∥₁_map c.args.self.now.once (λ o.
+          ⊎_elim
+          (λ t. once-set ps i a b q o told.0 (ours_taken _ a b t.0) (ours_taken q a b (own a b l)) (sole_taken ps i a b o told.0 t.0) (alone_row a b l c.requires))
+          (λ t. once-set ps i a b q o told.0 (subst (λ p. Ours p a b) (sym t.0) (ours_free a b)) (ours_taken q a b (own a b l)) (sole_free ps i a b t.1) (alone_row a b l c.requires))
+          told.1);
+    }
 
 pub returns : goal.returns
 returns g c =

@@ -9,4 +9,8 @@ invariant_of-result c =
     let bs = c.args.bytes.now in
     let l = c.args.self in
     let w = taken_apart bs l.mti l.bitmap (take l.count l.found) c.requires.found in
-    (c.requires.few, (∣ c.requires.found ∣₁, (∣ tiled l.bitmap bs (take l.count l.found) (bits_long bs l.bitmap w.mapped) w.found ∣₁, tt)))
+    record {
+      few = c.requires.few;
+      whole = ∣ c.requires.found ∣₁;
+      tiled = ∣ tiled l.bitmap bs (take l.count l.found) (bits_long bs l.bitmap w.mapped) w.found ∣₁;
+    }

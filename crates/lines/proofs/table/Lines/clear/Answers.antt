@@ -11,10 +11,10 @@ invariant_of-self g c =
     let i = c.in-Some.i in
     let a = c.args.issuer in
     let b = c.args.number in
-    let told = c.in-Some.ensures in (
-      length-set ps i None ∙ c.args.self.now.full,
-      (∥∥₁_map c.args.self.now.once (λ o. once-set ps i a b None o told.0 (ours_taken _ a b told.1) (ours_free a b) (sole_taken ps i a b o told.0 told.1) (λ rs k. tt)), tt),
-    )
+    let told = c.in-Some.ensures in record {
+      full = length-set ps i None ∙ c.args.self.now.full;
+      once = ∥∥₁_map c.args.self.now.once (λ o. once-set ps i a b None o told.0 (ours_taken _ a b told.1) (ours_free a b) (sole_taken ps i a b o told.0 told.1) (λ rs k. tt));
+    }
 
 pub returns-in-Some : goal.returns-in-Some
 returns-in-Some g c =

@@ -19,16 +19,12 @@ invariant_of-self c =
     let p = c.args.acquirer in
     let q = c.args.issuer in
     let x = c.count.result in
-    let e = sym (counted_placed t p q c.args.side c.args.amount x d.full d.square c.requires.banks.0 c.requires.banks.1 c.args.kind c.count.ensures) in (
-      full_placed t p q x d.full,
-      (
-        square_placed t p q x d.full d.square c.requires.banks.0,
-        (
-          subst (ApprovedWithin 512) e (approved_after c.args.kind s p q c.args.side c.args.amount c.requires.small c.requires.room d.approved),
-          (subst (ReversedWithin 512) e (reversed_after c.args.kind s p q c.args.side c.args.amount c.requires.small c.requires.room d.reversed), tt),
-        ),
-      ),
-    )
+    let e = sym (counted_placed t p q c.args.side c.args.amount x d.full d.square c.requires.banks.0 c.requires.banks.1 c.args.kind c.count.ensures) in record {
+      full = full_placed t p q x d.full;
+      square = square_placed t p q x d.full d.square c.requires.banks.0;
+      approved = subst (ApprovedWithin 512) e (approved_after c.args.kind s p q c.args.side c.args.amount c.requires.small c.requires.room d.approved);
+      reversed = subst (ReversedWithin 512) e (reversed_after c.args.kind s p q c.args.side c.args.amount c.requires.small c.requires.room d.reversed);
+    }
 
 pub returns : goal.returns
 unfolding sums_of

@@ -8,16 +8,12 @@ use Rattle.sums.proofs.day.Day.new.Goals as goal
 pub invariant_of-result : goal.invariant_of-result
 invariant_of-result c =
     let x = c.none.result in
-    let e = sym (even_sums x c.none.ensures) in (
-      refl,
-      (
-        even_square x,
-        (
-          subst (ApprovedWithin 512) e (approved_rises 0 512 no_sums (omega arith) none_approved),
-          (subst (ReversedWithin 512) e (reversed_rises 0 512 no_sums (omega arith) none_reversed), tt),
-        ),
-      ),
-    )
+    let e = sym (even_sums x c.none.ensures) in record {
+      full = refl;
+      square = even_square x;
+      approved = subst (ApprovedWithin 512) e (approved_rises 0 512 no_sums (omega arith) none_approved);
+      reversed = subst (ReversedWithin 512) e (reversed_rises 0 512 no_sums (omega arith) none_reversed);
+    }
 
 pub returns : goal.returns
 unfolding sums_of
