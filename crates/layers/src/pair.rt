@@ -36,12 +36,12 @@ impl<L: Host, R: Host> Pair<L, R> {
 }
 
 impl<L: Host, R: Host> Host for Pair<L, R> {
-    ghost meaning = { λ s. paired L.Host.meaning R.Host.meaning s };
+    ghost meaning = { λ s. paired L.meaning R.meaning s };
 
     fn post(&mut self, issuer: u8, number: u64, details: Details, must_stand: bool) -> PostAnswer
-        ensures kept { Posts (paired L.Host.meaning R.Host.meaning self.old) issuer number details must_stand result (paired L.Host.meaning R.Host.meaning self.new) }
-        ensures left { issuer < self.old.split → Posts (L.Host.meaning self.old.left) issuer number details must_stand result (L.Host.meaning self.new.left) × (self.new.right ≡ self.old.right) }
-        ensures right { self.old.split ≤ issuer → Posts (R.Host.meaning self.old.right) issuer number details must_stand result (R.Host.meaning self.new.right) × (self.new.left ≡ self.old.left) }
+        ensures kept { Posts (paired L.meaning R.meaning self.old) issuer number details must_stand result (paired L.meaning R.meaning self.new) }
+        ensures left { issuer < self.old.split → Posts (L.meaning self.old.left) issuer number details must_stand result (L.meaning self.new.left) × (self.new.right ≡ self.old.right) }
+        ensures right { self.old.split ≤ issuer → Posts (R.meaning self.old.right) issuer number details must_stand result (R.meaning self.new.right) × (self.new.left ≡ self.old.left) }
         ensures same { self.new.split ≡ self.old.split }
     {
         let answer = if issuer < self.split {
@@ -61,9 +61,9 @@ impl<L: Host, R: Host> Host for Pair<L, R> {
     }
 
     fn reverse(&mut self, issuer: u8, number: u64) -> ReverseAnswer
-        ensures kept { Reverses (paired L.Host.meaning R.Host.meaning self.old) issuer number result (paired L.Host.meaning R.Host.meaning self.new) }
-        ensures left { issuer < self.old.split → Reverses (L.Host.meaning self.old.left) issuer number result (L.Host.meaning self.new.left) × (self.new.right ≡ self.old.right) }
-        ensures right { self.old.split ≤ issuer → Reverses (R.Host.meaning self.old.right) issuer number result (R.Host.meaning self.new.right) × (self.new.left ≡ self.old.left) }
+        ensures kept { Reverses (paired L.meaning R.meaning self.old) issuer number result (paired L.meaning R.meaning self.new) }
+        ensures left { issuer < self.old.split → Reverses (L.meaning self.old.left) issuer number result (L.meaning self.new.left) × (self.new.right ≡ self.old.right) }
+        ensures right { self.old.split ≤ issuer → Reverses (R.meaning self.old.right) issuer number result (R.meaning self.new.right) × (self.new.left ≡ self.old.left) }
         ensures same { self.new.split ≡ self.old.split }
     {
         let answer = if issuer < self.split {
@@ -81,9 +81,9 @@ impl<L: Host, R: Host> Host for Pair<L, R> {
     }
 
     fn forget(&mut self, issuer: u8, number: u64) -> ForgetAnswer
-        ensures kept { Forgets (paired L.Host.meaning R.Host.meaning self.old) issuer number result (paired L.Host.meaning R.Host.meaning self.new) }
-        ensures left { issuer < self.old.split → Forgets (L.Host.meaning self.old.left) issuer number result (L.Host.meaning self.new.left) × (self.new.right ≡ self.old.right) }
-        ensures right { self.old.split ≤ issuer → Forgets (R.Host.meaning self.old.right) issuer number result (R.Host.meaning self.new.right) × (self.new.left ≡ self.old.left) }
+        ensures kept { Forgets (paired L.meaning R.meaning self.old) issuer number result (paired L.meaning R.meaning self.new) }
+        ensures left { issuer < self.old.split → Forgets (L.meaning self.old.left) issuer number result (L.meaning self.new.left) × (self.new.right ≡ self.old.right) }
+        ensures right { self.old.split ≤ issuer → Forgets (R.meaning self.old.right) issuer number result (R.meaning self.new.right) × (self.new.left ≡ self.old.left) }
         ensures same { self.new.split ≡ self.old.split }
     {
         if issuer < self.split {
@@ -103,7 +103,7 @@ impl<L: Host, R: Host> Host for Pair<L, R> {
 
     // The hosts below get no turn of this one.
     fn turn(&mut self)
-        ensures kept { Turns (paired L.Host.meaning R.Host.meaning self.old) (paired L.Host.meaning R.Host.meaning self.new) }
+        ensures kept { Turns (paired L.meaning R.meaning self.old) (paired L.meaning R.meaning self.new) }
         ensures below { (self.new.left ≡ self.old.left) × (self.new.right ≡ self.old.right) }
         ensures same { self.new.split ≡ self.old.split }
     {

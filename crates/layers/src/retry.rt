@@ -48,11 +48,11 @@ impl<H: Host> Retry<H> {
 }
 
 impl<H: Host> Host for Retry<H> {
-    ghost meaning = { λ s. retried H.Host.meaning s };
+    ghost meaning = { λ s. retried H.meaning s };
 
     fn post(&mut self, issuer: u8, number: u64, details: Details, must_stand: bool) -> PostAnswer
-        ensures kept { Posts (retried meaning self.old) issuer number details must_stand result (retried meaning self.new) }
-        ensures below { Tried (meaning self.old.below) self.old.times issuer number details must_stand result (meaning self.new.below) }
+        ensures kept { Posts (retried H.meaning self.old) issuer number details must_stand result (retried H.meaning self.new) }
+        ensures below { Tried (H.meaning self.old.below) self.old.times issuer number details must_stand result (H.meaning self.new.below) }
         ensures same { self.new.times ≡ self.old.times }
     {
         let mut last = self.below.post(issuer, number, details, must_stand);
@@ -76,8 +76,8 @@ impl<H: Host> Host for Retry<H> {
     }
 
     fn reverse(&mut self, issuer: u8, number: u64) -> ReverseAnswer
-        ensures kept { Reverses (retried meaning self.old) issuer number result (retried meaning self.new) }
-        ensures below { Undone (meaning self.old.below) self.old.times issuer number result (meaning self.new.below) }
+        ensures kept { Reverses (retried H.meaning self.old) issuer number result (retried H.meaning self.new) }
+        ensures below { Undone (H.meaning self.old.below) self.old.times issuer number result (H.meaning self.new.below) }
         ensures same { self.new.times ≡ self.old.times }
     {
         let mut answer = self.below.reverse(issuer, number);
@@ -97,8 +97,8 @@ impl<H: Host> Host for Retry<H> {
     }
 
     fn forget(&mut self, issuer: u8, number: u64) -> ForgetAnswer
-        ensures kept { Forgets (retried meaning self.old) issuer number result (retried meaning self.new) }
-        ensures below { Forgets (meaning self.old.below) issuer number result (meaning self.new.below) }
+        ensures kept { Forgets (retried H.meaning self.old) issuer number result (retried H.meaning self.new) }
+        ensures below { Forgets (H.meaning self.old.below) issuer number result (H.meaning self.new.below) }
         ensures same { self.new.times ≡ self.old.times }
     {
         self.below.forget(issuer, number)
@@ -110,7 +110,7 @@ impl<H: Host> Host for Retry<H> {
 
     // The host below gets no turn of this one.
     fn turn(&mut self)
-        ensures kept { Turns (retried meaning self.old) (retried meaning self.new) }
+        ensures kept { Turns (retried H.meaning self.old) (retried H.meaning self.new) }
         ensures below { self.new.below ≡ self.old.below }
         ensures same { self.new.times ≡ self.old.times }
     {

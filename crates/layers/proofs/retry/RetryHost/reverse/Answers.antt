@@ -18,7 +18,7 @@ loop-preserved g c = (
 
 pub returns : goal.returns
 returns g c =
-    let went = c.loop.invariant.0 (g.H.Host.meaning c.args.self.now.below) (gone_once _ _ _ _ _ c.reverse_answer.ensures) in
+    let went = c.loop.invariant.0 (g.H.Host.meaning c.args.self.now.below) (gone_once _ _ _ _ _ c.reverse-answer.ensures) in
     let last : c.loop.answer ≡ Silence → c.loop.counter ≡ c.args.self.now.times = λ s. elim c.loop-test.branch [ else-loop-test w ↦ omega arith | then-loop-test+in_default w ↦ absurd (w.in_default.not-Silence s) ] in
     record {
       kept = record { here = went.here; elsewhere = went.elsewhere; asks = ap counted c.loop.invariant.2; turns = c.loop.invariant.3; latest = refl };
