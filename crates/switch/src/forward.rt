@@ -40,9 +40,9 @@ fn once_undone(answer: ReverseAnswer) -> State
 impl<H: Host> Switch<H> {
     // Posts a waiting entry, which must stand: its amount has been paid out.
     fn put(&mut self, place: usize, entry: &Entry) -> Told
-        requires next { Next (view meaning self.old).books.places (view meaning self.old).books.mark place entry.now }
+        requires next { Next (view H.meaning self.old).books.places (view H.meaning self.old).books.mark place entry.now }
         requires waits { entry.now.state ≡ Waiting }
-        ensures { PutNow (view meaning self.old) place entry.now result (view meaning self.new) }
+        ensures { PutNow (view H.meaning self.old) place entry.now result (view H.meaning self.new) }
     {
         let answer = self
             .host
@@ -57,9 +57,9 @@ impl<H: Host> Switch<H> {
 
     // Takes an owed entry back.
     fn undo(&mut self, place: usize, entry: &Entry) -> Told
-        requires next { Next (view meaning self.old).books.places (view meaning self.old).books.mark place entry.now }
+        requires next { Next (view H.meaning self.old).books.places (view H.meaning self.old).books.mark place entry.now }
         requires owes { entry.now.state ≡ Owed }
-        ensures { UndoneNow (view meaning self.old) place entry.now result (view meaning self.new) }
+        ensures { UndoneNow (view H.meaning self.old) place entry.now result (view H.meaning self.new) }
     {
         let answer = self.host.reverse(entry.issuer, entry.number);
         let state = once_undone(answer);
@@ -72,7 +72,7 @@ impl<H: Host> Switch<H> {
 
     // Gives the host a turn, then asks it once for the next entry that waits or is owed, and tells what came of it.
     pub fn forward(&mut self) -> Option<Told>
-        ensures { Forwarded (view meaning self.old) result (view meaning self.new) }
+        ensures { Forwarded (view H.meaning self.old) result (view H.meaning self.new) }
     {
         self.host.turn();
         let (place, entry) = self.books.next_unsettled()?;

@@ -85,10 +85,10 @@ fn presents(mti: u16) -> bool
 impl<H: Host> Switch<H> {
     // Enters a request: its host is asked once, and need not let it stand.
     fn request(&mut self, number: u64, issuer: u8, place: usize, terms: Terms) -> u8
-        requires room { lowest_free (view meaning self.old).books.places ≡ Some place }
-        requires new { seek (view meaning self.old).books.places number ≡ None }
+        requires room { lowest_free (view H.meaning self.old).books.places ≡ Some place }
+        requires new { seek (view H.meaning self.old).books.places number ≡ None }
         requires size { Fits number issuer terms }
-        ensures { RequestedSo (view meaning self.old) number issuer place terms result (view meaning self.new) }
+        ensures { RequestedSo (view H.meaning self.old) number issuer place terms result (view H.meaning self.new) }
     {
         let answer = self.host.post(issuer, number, terms.details(), false);
         let code = code_by(answer);
@@ -99,10 +99,10 @@ impl<H: Host> Switch<H> {
 
     // Enters an advice, its host unasked.
     fn advise(&mut self, number: u64, issuer: u8, place: usize, terms: Terms) -> u8
-        requires room { lowest_free (view meaning self.old).books.places ≡ Some place }
-        requires new { seek (view meaning self.old).books.places number ≡ None }
+        requires room { lowest_free (view H.meaning self.old).books.places ≡ Some place }
+        requires new { seek (view H.meaning self.old).books.places number ≡ None }
         requires size { Fits number issuer terms }
-        ensures { (result ≡ 0) × (view meaning self.new ≡ entering (view meaning self.old) place (entered number issuer terms Waiting 0) (view meaning self.old).host) }
+        ensures { (result ≡ 0) × (view H.meaning self.new ≡ entering (view H.meaning self.old) place (entered number issuer terms Waiting 0) (view H.meaning self.old).host) }
     {
         let entry = Entry::new(number, issuer, terms, State::Waiting, 0);
         self.books.take(place, entry);
@@ -113,10 +113,10 @@ impl<H: Host> Switch<H> {
 impl<H: Host> Switch<H> {
     // Enters what is new: a request or an advice.
     fn enter(&mut self, number: u64, issuer: u8, place: usize, terms: Terms) -> u8
-        requires room { lowest_free (view meaning self.old).books.places ≡ Some place }
-        requires new { seek (view meaning self.old).books.places number ≡ None }
+        requires room { lowest_free (view H.meaning self.old).books.places ≡ Some place }
+        requires new { seek (view H.meaning self.old).books.places number ≡ None }
         requires size { Fits number issuer terms }
-        ensures { EnteredSo (view meaning self.old) number issuer place terms result (view meaning self.new) }
+        ensures { EnteredSo (view H.meaning self.old) number issuer place terms result (view H.meaning self.new) }
     {
         match terms.kind {
             Kind::Request => self.request(number, issuer, place, terms),
@@ -128,7 +128,7 @@ impl<H: Host> Switch<H> {
     fn present(&mut self, acquirer: u8, p: &Presentment) -> u8
         requires bank { acquirer < 16 }
         requires size { SizedPresentment p.now }
-        ensures { PresentedSo (view meaning self.old) acquirer p.now result (view meaning self.new) }
+        ensures { PresentedSo (view H.meaning self.old) acquirer p.now result (view H.meaning self.new) }
     {
         let Some(moment) = p.particulars.moment else {
             return 30;
@@ -162,8 +162,8 @@ impl<H: Host> Switch<H> {
     // comes after its reversal is not booked.
     fn bar(&mut self, number: u64) -> u8
         requires range { number < 16 * 10 ^ 16 }
-        requires new { seek (view meaning self.old).books.places number ≡ None }
-        ensures { Coded (λ said. ByEntry None (view meaning self.old) number 0 said (view meaning self.new)) result }
+        requires new { seek (view H.meaning self.old).books.places number ≡ None }
+        ensures { Coded (λ said. ByEntry None (view H.meaning self.old) number 0 said (view H.meaning self.new)) result }
     {
         if number::moment(number) <= self.books.horizon() {
             return 25;
@@ -177,8 +177,8 @@ impl<H: Host> Switch<H> {
 
     // A reversal of an entry: state and reversal together decide.
     fn reverse(&mut self, place: usize, entry: &Entry, amount: u64) -> u8
-        requires { Found (view meaning self.old).books.places entry.now.number place entry.now }
-        ensures { Coded (λ said. ByEffect (effect entry.now.state (reversal_of entry.now amount)) (view meaning self.old) entry.now said (view meaning self.new)) result }
+        requires { Found (view H.meaning self.old).books.places entry.now.number place entry.now }
+        ensures { Coded (λ said. ByEffect (effect entry.now.state (reversal_of entry.now amount)) (view H.meaning self.old) entry.now said (view H.meaning self.new)) result }
     {
         match entry.reversed(entry.reversal(amount)) {
             Effect::Answers(code) => code,
@@ -193,7 +193,7 @@ impl<H: Host> Switch<H> {
     fn take_back(&mut self, acquirer: u8, v: &Reversal) -> u8
         requires bank { acquirer < 16 }
         requires size { SizedReversal v.now }
-        ensures { TakenBackSo (view meaning self.old) acquirer v.now result (view meaning self.new) }
+        ensures { TakenBackSo (view H.meaning self.old) acquirer v.now result (view H.meaning self.new) }
     {
         if !proper(v) {
             return 30;
@@ -211,7 +211,7 @@ impl<H: Host> Switch<H> {
     fn obey(&mut self, acquirer: u8, order: &Order) -> u8
         requires bank { acquirer < 16 }
         requires size { Sized order.now }
-        ensures { Obeyed (view meaning self.old) acquirer order.now result (view meaning self.new) }
+        ensures { Obeyed (view H.meaning self.old) acquirer order.now result (view H.meaning self.new) }
     {
         match order {
             Order::Presented(presentment) => self.present(acquirer, presentment),
@@ -222,7 +222,7 @@ impl<H: Host> Switch<H> {
     // Takes a message of any bytes, and writes one reply to the front of the buffer, of which it answers the length. A message
     // that is refused changes nothing: neither the switch, nor its host, nor a byte of the buffer.
     pub fn handle(&mut self, bytes: &[u8], out: &mut [u8]) -> Result<usize, SwitchFault>
-        ensures { Handles (view meaning self.old) bytes.now out.old result (view meaning self.new) out.new }
+        ensures { Handles (view H.meaning self.old) bytes.now out.old result (view H.meaning self.new) out.new }
     {
         let (layout, order) = take(bytes, out.len())?;
         let told = order.particulars();

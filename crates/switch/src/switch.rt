@@ -20,7 +20,7 @@ pub struct Switch<H: Host> {
 impl<H: Host> Switch<H> {
     // Opens a switch: nothing in the journal, no sums, the mark at place 0, the horizon 0, and nothing closed.
     pub fn open(banks: Banks, routes: Routes, host: H) -> Switch<H>
-        ensures { view meaning result ≡ opened (codes_of banks) (routes_of routes) (meaning host) }
+        ensures { view H.meaning result ≡ opened (codes_of banks) (routes_of routes) (H.meaning host) }
     {
         Switch {
             banks,

@@ -16,7 +16,7 @@ loop-i-preserved c =
 pub invariant_of-result : goal.invariant_of-result
 invariant_of-result c =
     let all = c.args.accounts.now in
-    ap length c.loop-i.invariant.1 ∙ placed_full (take c.loop-i.i all) (omega (arith, length-take c.loop-i.i all))
+    record { full = ap length c.loop-i.invariant.1 ∙ placed_full (take c.loop-i.i all) (omega (arith, length-take c.loop-i.i all)) }
 
 pub returns : goal.returns
 returns c =
