@@ -7,9 +7,10 @@ use std::test::Fail;
 pub(crate) const QUESTION: &[u8] =
     b"02007220000100000000165000000000000001000000000000002500010510150000000103111";
 
-// A refusal is told as number, layer, element and place.
+// A refusal is told as number, layer, element and place. `case` says which one of many it is that fails.
 pub(crate) fn check_told(
     rt: &impl Abort,
+    case: usize,
     fault: MessageFault,
     number: u8,
     layer: Layer,
@@ -23,7 +24,8 @@ pub(crate) fn check_told(
             layer,
             element,
             place,
-        }
+        },
+        "case {case}"
     );
     Ok(())
 }

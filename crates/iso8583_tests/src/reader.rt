@@ -82,10 +82,18 @@ fn check_element(
     Ok(())
 }
 
-fn check_refused(rt: &impl Abort, case: &Case) -> Result<(), Fail> {
+fn check_refused(rt: &impl Abort, i: usize, case: &Case) -> Result<(), Fail> {
     match Layout::read(case.bytes) {
-        Ok(_) => Err(Fail::new("taken")),
-        Err(fault) => check_told(rt, fault, case.number, case.layer, case.element, case.place),
+        Ok(_) => Err(Fail::new(format_args!("taken: case {i}"))),
+        Err(fault) => check_told(
+            rt,
+            i,
+            fault,
+            case.number,
+            case.layer,
+            case.element,
+            case.place,
+        ),
     }
 }
 
@@ -158,7 +166,7 @@ fn a_message_without_elements_is_taken(rt: HostRuntime) -> Result<(), Fail> {
 #[test]
 fn each_refusal_at_its_place(rt: HostRuntime) -> Result<(), Fail> {
     for (i, case) in REFUSED.iter().enumerate() {
-        check_refused(&rt, case).note(i)?;
+        check_refused(&rt, i, case)?;
     }
     Ok(())
 }
@@ -169,9 +177,9 @@ fn bytes_behind_a_message_are_refused(rt: HostRuntime) -> Result<(), Fail> {
     bytes[..77].copy_from_slice(QUESTION);
     for length in [78, 2047, 2048, 2049, 3000] {
         let Err(fault) = Layout::read(&bytes[..length]) else {
-            return Err(Fail::new("taken")).note(length);
+            return Err(Fail::new(format_args!("taken: {length} bytes")));
         };
-        check_told(&rt, fault, 9, Layer::Message, 0, 77).note(length)?;
+        check_told(&rt, length, fault, 9, Layer::Message, 0, 77)?;
     }
     Ok(())
 }

@@ -62,29 +62,38 @@ fn a_refused_start_leaves_the_buffer(rt: HostRuntime) -> Result<(), Fail> {
         let mut out = [b'.'; 40];
         let room = start.room.min(40);
         let Err(fault) = Writer::start(&mut out[..room], start.mti, start.elements) else {
-            return Err(Fail::new("taken")).note(i);
+            return Err(Fail::new(format_args!("taken: case {i}")));
         };
-        check_told(&rt, fault, start.number, Layer::Message, start.about, 0).note(i)?;
-        assert_eq!(rt; out, [b'.'; 40], "{}", i);
+        check_told(&rt, i, fault, start.number, Layer::Message, start.about, 0)?;
+        assert_eq!(rt; out, [b'.'; 40], "case {i}");
     }
     Ok(())
 }
 
 // The end is refused too, and tells that the writer still expects the same element. The buffer is as the start left it: `same` is.
-fn check_step(rt: &impl Abort, step: &Step, out: &mut [u8], same: &mut [u8]) -> Result<(), Fail> {
-    assert!(rt; Writer::start(same, 200, step.announced).is_ok());
+fn check_step(
+    rt: &impl Abort,
+    case: usize,
+    step: &Step,
+    out: &mut [u8],
+    same: &mut [u8],
+) -> Result<(), Fail> {
+    assert!(rt;
+        Writer::start(same, 200, step.announced).is_ok(),
+        "case {case}"
+    );
     let Ok(mut writer) = Writer::start(out, 200, step.announced) else {
-        return Err(Fail::new("no start"));
+        return Err(Fail::new(format_args!("no start: case {case}")));
     };
     let Err(fault) = writer.put(out, step.element, step.chars) else {
-        return Err(Fail::new("taken"));
+        return Err(Fail::new(format_args!("taken: case {case}")));
     };
-    check_told(rt, fault, step.number, step.layer, step.about, 0)?;
-    assert_eq!(rt; &out[..], &same[..]);
+    check_told(rt, case, fault, step.number, step.layer, step.about, 0)?;
+    assert_eq!(rt; &out[..], &same[..], "case {case}");
     let Err(fault) = writer.end() else {
-        return Err(Fail::new("ended"));
+        return Err(Fail::new(format_args!("ended: case {case}")));
     };
-    check_told(rt, fault, 13, Layer::Message, step.about, 0)
+    check_told(rt, case, fault, 13, Layer::Message, step.about, 0)
 }
 
 #[test]
@@ -93,7 +102,7 @@ fn a_refused_step_leaves_writer_and_buffer(rt: HostRuntime) -> Result<(), Fail> 
         let mut out = [b'.'; 40];
         let mut same = [b'.'; 40];
         let room = step.room.min(40);
-        check_step(&rt, step, &mut out[0..room], &mut same[0..room]).note(i)?;
+        check_step(&rt, i, step, &mut out[0..room], &mut same[0..room])?;
     }
     Ok(())
 }
@@ -114,7 +123,7 @@ fn a_refused_step_is_tried_again(rt: HostRuntime) -> Result<(), Fail> {
     let Err(fault) = writer.put(&mut out, 4, b"000000002500") else {
         return Err(Fail::new("one element too many is taken"));
     };
-    check_told(&rt, fault, 13, Layer::Message, 0, 0)?;
+    check_told(&rt, 0, fault, 13, Layer::Message, 0, 0)?;
     let Ok(length) = writer.end() else {
         return Err(Fail::new("not ended"));
     };
@@ -164,5 +173,5 @@ fn elements_are_composed_in_their_order_only(rt: HostRuntime) -> Result<(), Fail
     let Err(fault) = compose(&mut out, 200, &elements) else {
         return Err(Fail::new("taken"));
     };
-    check_told(&rt, fault, 13, Layer::Message, 2, 0)
+    check_told(&rt, 0, fault, 13, Layer::Message, 2, 0)
 }
