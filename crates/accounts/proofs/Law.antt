@@ -12,7 +12,7 @@ use Rattle.host.specs.declared.ask.ReverseAnswer.TheVariants as reversing
 use Rattle.host.specs.declared.line.Card.{Card}
 use Rattle.host.specs.declared.line.Details.{Details}
 use Rattle.host.specs.declared.line.Line.{Line}
-use Rattle.host.specs.declared.line.Line.TheVariants.{Absent, Posted, Adrift, Leaving, Closed}
+use Rattle.host.specs.declared.line.Line.TheVariants.{Absent, Posted, Leaving, Closed}
 use Rattle.host.specs.declared.line.Side.{Side}
 use Rattle.host.specs.declared.line.Side.TheVariants.{Debit, Credit}
 use Rattle.accounts.specs.Answers.{overdrawn, within_balance, book_answer, after_post, booked_back, after_reverse}

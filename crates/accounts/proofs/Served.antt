@@ -1,7 +1,7 @@
 -- Calls made one after the other leave a history.
-use Rattle.std.proofs.Common.{◌≡◌, ℕ, zero, suc, ◌+◌, ◌<◌, ◌≤◌, List, [], ◌∷◌, ◌++◌, map, length, get_or, take, set, Some, Option, sym, refl, ap, ◌∙◌, subst, arith}
+use Rattle.std.proofs.Common.{◌≡◌, ℕ, zero, suc, ◌+◌, ◌<◌, ◌≤◌, List, [], ◌∷◌, ◌++◌, map, length, get_or, take, set, Some, Option, sym, refl, ap, ◌∙◌}
 use Rattle.std.proofs.lemmas.List.{take_more_set, take_all}
-use Rattle.accounts.specs.Histories.{Ran, exchanges}
+use Rattle.accounts.specs.Histories.{Ran}
 use Rattle.accounts.specs.Made.{Made, called}
 use Rattle.accounts.specs.Views.{Book}
 use Rattle.accounts.specs.declared.exchange.Answer.{Answer}

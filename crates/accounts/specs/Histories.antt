@@ -13,9 +13,7 @@ use Rattle.host.specs.declared.line.Line.{Line}
 use Rattle.host.specs.declared.line.Line.TheVariants.{Absent}
 use Rattle.accounts.specs.Balances.{same_card, balance_of, booked, opposite}
 use Rattle.accounts.specs.Views.{Book, Places, AnswersPost, AnswersReverse}
-use Rattle.accounts.specs.declared.exchange.Answer.{Answer}
 use Rattle.accounts.specs.declared.exchange.Answer.TheVariants as answer
-use Rattle.accounts.specs.declared.exchange.Call.{Call}
 use Rattle.accounts.specs.declared.exchange.Call.TheVariants as call
 use Rattle.accounts.specs.declared.exchange.Exchange.{Exchange}
 

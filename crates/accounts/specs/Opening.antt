@@ -1,5 +1,5 @@
 -- Which accounts a book may be opened with.
-use Rattle.std.specs.Prelude.{ℕ, ◌-◌, ◌^◌, Bool, true, false, not, ◌&&◌, ◌||◌, List, [], ◌∷◌, ◌++◌, map, length, replicate, ℤ, pos, Some, None, Option, int_le, nat_le, nat_lt}
+use Rattle.std.specs.Prelude.{◌-◌, ◌^◌, Bool, true, false, not, ◌&&◌, ◌||◌, List, [], ◌∷◌, ◌++◌, map, length, replicate, ℤ, pos, Some, None, Option, int_le, nat_le, nat_lt}
 use Rattle.host.specs.declared.line.Card.{Card}
 use Rattle.accounts.specs.Balances.{same_card, balance_of}
 use Rattle.accounts.specs.declared.accounts.Account.{Account}

@@ -1,17 +1,17 @@
 -- The bounds of the sums are kept by each change of the books.
-use Rattle.std.proofs.Common.{◌≡◌, ℕ, zero, suc, ◌+◌, ◌*◌, ◌^◌, ◌<◌, ◌≤◌, Bool, true, false, ◌&&◌, ltb, List, [], ◌∷◌, length, get_or, set, IfSome, Some, None, Option, sym, refl, ap, ◌∙◌, subst, arith, length-set, MatchOption}
-use Rattle.std.proofs.lemmas.Bool.{and_parts, and_from, ltb-true, both_ways}
+use Rattle.std.proofs.Common.{◌≡◌, ℕ, zero, suc, ◌+◌, ◌*◌, ◌^◌, ◌<◌, ◌≤◌, true, false, ◌&&◌, ltb, [], ◌∷◌, length, get_or, set, IfSome, Some, None, Option, sym, refl, ap, ◌∙◌, subst, arith, length-set, MatchOption}
+use Rattle.std.proofs.lemmas.Bool.{and_parts, and_from, ltb-true}
 use Rattle.journal.specs.Entries.{side_of, owing, in_state}
 use Rattle.journal.specs.Entries as entries
 use Rattle.journal.specs.Numbers.{acquirer}
-use Rattle.journal.specs.Places.{Places, seek, Found, taken, undone, lowest_free, as_undone, one_if}
+use Rattle.journal.specs.Places.{Places, seek, Found, taken, undone, lowest_free, one_if}
 use Rattle.journal.specs.declared.entry.Entry.{Entry}
 use Rattle.journal.specs.declared.entry.State.{State}
 use Rattle.journal.specs.declared.entry.State.TheVariants.{Waiting, Completed, Declined, Owed, Reversed, Barred}
 use Rattle.journal.proofs.Tallies.{taken_at_most, undone_at_most, taken_new, undone_new, taken_over, undone_over}
 use Rattle.sums.specs.Sums.{Sums, ApprovedWithin, ReversedWithin}
 use Rattle.sums.proofs.Within.{approved_more, reversed_more, approved_stays, reversed_stays, approved_rises, reversed_rises}
-use Rattle.books.specs.Ledgers.{approved, reversed, counted}
+use Rattle.books.specs.Ledgers.{reversed, counted}
 use Rattle.books.specs.Sizes.{small, small_at, all_small}
 
 -- sizes

@@ -1,18 +1,16 @@
 -- What a new entry adds to the sums, and that their bounds are kept.
-use Rattle.std.proofs.Common.{◌≡◌, ℕ, zero, suc, ◌+◌, ◌<◌, ◌≤◌, Bool, true, false, ◌&&◌, ◌⊎◌, List, [], ◌∷◌, length, get_or, set, replicate, Some, None, Option, sym, refl, ap, ◌∙◌, subst, ⊎_elim, arith, length-set}
-use Rattle.std.proofs.lemmas.Bool.{and_parts, and_from, ltb-true}
+use Rattle.std.proofs.Common.{◌≡◌, ℕ, zero, suc, true, ◌⊎◌, replicate, None, sym, refl, ap, ◌∙◌, subst, ⊎_elim, arith}
 use Rattle.host.specs.declared.line.Side.{Side}
 use Rattle.journal.specs.Entries.{side_of}
 use Rattle.journal.specs.Numbers.{acquirer}
-use Rattle.journal.specs.Places.{Places, taken, undone, lowest_free}
+use Rattle.journal.specs.Places.{Places}
 use Rattle.journal.specs.declared.entry.Entry.{Entry}
 use Rattle.journal.specs.declared.entry.State.{State}
-use Rattle.journal.specs.declared.entry.State.TheVariants.{Waiting, Completed, Declined, Owed, Reversed, Barred}
-use Rattle.journal.proofs.Tallies.{taken_at_most, undone_at_most, taken_new, undone_new, taken_over, undone_over, tally_nothing}
+use Rattle.journal.specs.declared.entry.State.TheVariants.{Waiting, Completed}
 use Rattle.sums.specs.Sums.{Sums, no_sums, with_approval, with_reversal, ApprovedWithin, ReversedWithin}
-use Rattle.sums.proofs.Within.{approved_more, reversed_more, approved_stays, reversed_stays, approved_rises, reversed_rises, none_approved, none_reversed}
+use Rattle.sums.proofs.Within.{approved_rises, reversed_rises, none_approved, none_reversed}
 use Rattle.books.specs.Ledgers.{approved, reversed, counted}
-use Rattle.books.specs.Sizes.{small, small_at, all_small}
+use Rattle.books.specs.Sizes.{all_small}
 
 pub counts : (st : State) (s : Sums) (e : Entry) → (st ≡ Waiting) ⊎ (st ≡ Completed) → counted st s e ≡ approved s e
 counts st s e is = ⊎_elim (λ w. ap (λ x. counted x s e) w) (λ c. ap (λ x. counted x s e) c) is

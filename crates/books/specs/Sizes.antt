@@ -1,5 +1,5 @@
 -- How large the numbers in an entry are.
-use Rattle.std.specs.Prelude.{ℕ, ◌*◌, ◌^◌, Bool, true, ◌&&◌, [], ◌∷◌, Some, None, Option, nat_lt}
+use Rattle.std.specs.Prelude.{◌*◌, ◌^◌, Bool, true, ◌&&◌, [], ◌∷◌, Some, None, Option, nat_lt}
 use Rattle.journal.specs.Places.{Places}
 use Rattle.journal.specs.declared.entry.Entry.{Entry}
 

@@ -1,21 +1,13 @@
 -- The bitmap of a set of elements.
-use Rattle.std.proofs.Common.{◌≡◌, ℕ, zero, suc, ◌+◌, ◌-◌, ◌*◌, ◌/◌, ◌%◌, ◌^◌, ◌<◌, ◌≤◌, Bool, true, false, cond, not, ◌&&◌, ◌||◌, eqb, ltb, leb, ◌⊎◌, List, [], ◌∷◌, map, is_some, Some, None, Ok, Err, sym, refl, ap, ◌∙◌, subst, ⊎_elim, pow-suc, div-one, arith}
-use native.Mathlib.Nat.{pow-zero}
-use Rattle.std.proofs.lemmas.Nat.{shr-shr}
-use Rattle.std.proofs.lemmas.Bool.{cases_Bool, cases_eq, cases_lt, cond-true, cond-false, eq-eqb, ne_eqb, eqb-true, lt-ltb, ltb-true, le-leb, both_ways, or_left, or_right, or_cases, and_from, and_left, and_right, and_parts}
-use Rattle.iso8583.specs.declared.found.Found.{Found}
+use Rattle.std.proofs.Common.{◌≡◌, ℕ, zero, suc, ◌+◌, ◌-◌, ◌*◌, ◌/◌, ◌%◌, ◌^◌, ◌<◌, ◌≤◌, Bool, true, false, cond, not, ◌&&◌, ◌||◌, eqb, ltb, List, [], ◌∷◌, None, Ok, Err, sym, refl, ap, ◌∙◌, ⊎_elim, pow-suc, div-one, arith}
+use Rattle.std.proofs.lemmas.Bool.{cases_Bool, cases_eq, cond-false, eq-eqb, ne_eqb, eqb-true, lt-ltb, ltb-true, both_ways, or_left, or_right, or_cases, and_from, and_left, and_right}
 use Rattle.elements.specs.declared.fault.MessageFault.TheVariants.{Unknown, Empty}
 use Rattle.iso8583.specs.Bitmap.{marked, first, strange}
-use Rattle.iso8583.specs.Messages.{found_of}
 use Rattle.iso8583.specs.Reading.{unless, marks_of, marked_at, after}
 use Rattle.elements.specs.Table.{table, known}
-use Rattle.composer.specs.Writing.{sets, marks, bit, bits_from, listed, outside, announced}
-use Rattle.iso8583.proofs.Bits.{bit_cases}
+use Rattle.composer.specs.Writing.{marks, bit, bits_from, listed, outside}
 use Rattle.iso8583.proofs.Firsts.{first_none, first_fails}
-use Rattle.composer.proofs.Lows.{some_low, none_low}
-use Rattle.iso8583.proofs.Outcomes.{unless_ok}
-use Rattle.elements.proofs.Rows.{known_range, proper_table}
-use Rattle.composer.proofs.Sets.{bits_same, bits_back, at_bit, half_bit}
+use Rattle.composer.proofs.Sets.{at_bit, half_bit}
 
 -- bits as a number, and each of them again
 pub bits_below : (p : ℕ → Bool) (n : ℕ) → bits_from p n < 2 ^ n

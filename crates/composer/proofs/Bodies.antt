@@ -1,28 +1,28 @@
 -- The elements of a message as text: what the writer puts down, and what the reader takes up.
-use Rattle.std.proofs.Common.{◌≡◌, ℕ, zero, suc, ◌+◌, ◌-◌, ◌<◌, ◌≤◌, Bool, true, false, cond, eqb, leb, List, [], ◌∷◌, ◌++◌, map, length, get_or, take, drop, Some, None, Ok, Err, Result, sym, refl, ap, ◌∙◌, subst, ⊎_elim, append_assoc, append-nil, arith, rules}
+use Rattle.std.proofs.Common.{◌≡◌, ℕ, ◌+◌, ◌-◌, ◌≤◌, true, eqb, leb, List, [], ◌∷◌, ◌++◌, map, length, take, drop, None, Ok, Err, Result, sym, refl, ap, ◌∙◌, subst, ⊎_elim, append_assoc, arith, rules}
 use Rattle.std.specs.List.{between}
-use Rattle.std.proofs.lemmas.List.{length-append, take_at, drop_at, places, same_lists, drop-append-le, take_all}
+use Rattle.std.proofs.lemmas.List.{length-append, take_at, drop_at, places, same_lists}
 use Rattle.std.proofs.lemmas.Bool.{cond-true, cond-false, cases_Bool, eqb-true, eq-eqb, leb-true, le-leb}
 use Rattle.elements.specs.declared.fault.ElementFault.{ElementFault}
 use Rattle.elements.specs.declared.fault.ElementFault.TheVariants.{Length, Character}
 use Rattle.elements.specs.declared.fault.MessageFault.{MessageFault}
-use Rattle.elements.specs.declared.fault.MessageFault.TheVariants.{Order, Room, Element}
+use Rattle.elements.specs.declared.fault.MessageFault.TheVariants.{Order, Room}
 use Rattle.iso8583.specs.declared.found.Found.{Found}
 use Rattle.elements.specs.declared.table.Length.{Length as Lengths}
 use Rattle.elements.specs.declared.table.Length.TheVariants.{Fixed, UpTo}
 use Rattle.elements.specs.declared.table.Row.{Row}
 use Rattle.iso8583.specs.Bitmap.{marked}
 use Rattle.composer.specs.Contents.{Item, item_of, Composed, on, all_put}
-use Rattle.iso8583.specs.Reading.{after, before, unless, lifted, wrong, sized, element_at, elements}
+use Rattle.iso8583.specs.Reading.{after, before, unless, lifted, wrong, elements}
 use Rattle.elements.specs.Table.{admits, fits}
 use Rattle.elements.specs.Fields.{field, spelled}
-use Rattle.composer.specs.Writing.{State, laid, grown, chosen, checked, placing, filling, next_is, putting, ending}
+use Rattle.composer.specs.Writing.{State, laid, grown, chosen, checked, placing, filling, next_is, putting}
 use Rattle.iso8583.proofs.Digits.{length-spelled}
 use Rattle.iso8583.proofs.Elements.{Spelt, found_at, respelt}
 use Rattle.composer.proofs.Lays.{laid_next, length-laid}
 use Rattle.iso8583.proofs.Outcomes.{never, same_ok, chosen_ok, unless_ok, after_is_ok}
-use Rattle.elements.proofs.Rows.{Proper, proper, proper_first, short}
-use Rattle.iso8583.proofs.Tiles.{Stepped, stepped}
+use Rattle.elements.proofs.Rows.{proper, proper_first, short}
+use Rattle.iso8583.proofs.Tiles.{stepped}
 
 -- the elements' text
 abbrev pub text : List Row → List Item → List ℕ

@@ -1,15 +1,13 @@
 -- The type and the bitmaps of a message, written and read.
-use Rattle.std.proofs.Common.{◌≡◌, ℕ, zero, suc, ◌+◌, ◌-◌, ◌*◌, ◌/◌, ◌%◌, ◌^◌, ◌<◌, ◌≤◌, Bool, true, false, cond, ◌&&◌, List, [], ◌∷◌, ◌++◌, length, take, drop, Some, None, Ok, Err, Result, sym, refl, ap, ◌∙◌, subst, ⊎_elim, append_assoc, append-nil, arith}
+use Rattle.std.proofs.Common.{◌≡◌, ℕ, zero, suc, ◌+◌, ◌/◌, ◌%◌, ◌^◌, ◌<◌, ◌≤◌, Bool, true, false, cond, List, [], ◌∷◌, ◌++◌, length, take, drop, None, Ok, sym, ap, ◌∙◌, subst, ⊎_elim, append_assoc, append-nil, arith}
 use Rattle.std.specs.Str.Parse.{digits_value, AllDigits}
 use Rattle.std.proofs.lemmas.Nat.{shr_below, mod_below, pow_pos}
 use Rattle.std.proofs.lemmas.Int.Digits.{digits_value-lt}
-use Rattle.std.proofs.lemmas.List.{take_at, drop_at, drop-drop, take-append-drop, length-append, length-drop, length-take-le}
+use Rattle.std.proofs.lemmas.List.{take_at, drop_at, drop-drop, take-append-drop, length-take-le}
 use Rattle.std.proofs.lemmas.Bool.{cond-true, cond-false, cases_Bool, both_ways}
-use Rattle.elements.specs.declared.fault.MessageFault.{MessageFault}
 use Rattle.elements.specs.declared.fault.MessageFault.TheVariants.{Mti, Bitmap}
 use Rattle.iso8583.specs.Bitmap.{marked, joined}
 use Rattle.iso8583.specs.Reading.{after, unless, wrong, mti_of, half, with_second, bits_of, body}
-use Rattle.elements.specs.Table.{decimal, hexadecimal}
 use Rattle.elements.specs.Fields.{spelled}
 use Rattle.composer.specs.Writing.{head}
 use Rattle.composer.proofs.Bitmaps.{Sound}

@@ -1,11 +1,11 @@
 -- The two halves of a bitmap.
-use Rattle.std.proofs.Common.{◌≡◌, ℕ, ◌+◌, ◌-◌, ◌*◌, ◌/◌, ◌%◌, ◌^◌, ◌<◌, ◌≤◌, Bool, true, false, eqb, ◌⊎◌, sym, refl, ap, ◌∙◌, subst, inl, inr, ⊎_elim, arith}
+use Rattle.std.proofs.Common.{◌≡◌, ℕ, ◌+◌, ◌-◌, ◌*◌, ◌/◌, ◌%◌, ◌^◌, ◌<◌, ◌≤◌, true, false, eqb, sym, ap, ◌∙◌, ⊎_elim, arith}
 use native.Mathlib.Nat.{zero-div}
 use lib.Count.{count_leading_zeros}
-use Rattle.std.proofs.lemmas.Nat.{field_of, shr-shr, shl-shr, mod_below, pow_pos, mod-pow-add, shr_split, shr_below, shr_high, mod_low}
+use Rattle.std.proofs.lemmas.Nat.{field_of, shr-shr, shl-shr, mod_below, pow_pos, mod-pow-add, shr_split, shr_high, mod_low}
 use Rattle.std.proofs.lemmas.Bool.{cases_eq, cases_lt, both_ways}
 use Rattle.iso8583.specs.Bitmap.{marked, joined}
-use Rattle.iso8583.proofs.Bits.{Top, top, vanished}
+use Rattle.iso8583.proofs.Bits.{top, vanished}
 
 -- bits 65 to 128 are those of the low half
 mod_two : (x m : ℕ) → 1 ≤ m → x % 2 ^ m % 2 ≡ x % 2

@@ -1,10 +1,10 @@
 -- Elements put one after the other.
-use Rattle.std.proofs.Common.{◌≡◌, ℕ, ◌+◌, ◌<◌, ◌≤◌, List, [], ◌∷◌, ◌++◌, map, length, get_or, take, drop, Ok, Err, Result, sym, refl, ap, ◌∙◌}
+use Rattle.std.proofs.Common.{◌≡◌, ℕ, ◌+◌, ◌<◌, ◌≤◌, List, [], ◌∷◌, ◌++◌, map, length, get_or, take, drop, Ok, Err, sym, ap, ◌∙◌}
 use Rattle.std.proofs.lemmas.List.{take_more, drop_more, drop_all, map_push}
 use Rattle.elements.specs.declared.fault.MessageFault.{MessageFault}
 use Rattle.iso8583.specs.declared.message.Element.{Element}
 use Rattle.composer.specs.Composes.{items, numbers}
-use Rattle.composer.specs.Contents.{Item, item, Composed, all_put, on}
+use Rattle.composer.specs.Contents.{item, all_put, on}
 use Rattle.composer.specs.Writing.{State, putting, ending}
 
 -- what a read of an element past the end would give

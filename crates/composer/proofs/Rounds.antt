@@ -1,20 +1,18 @@
 -- Reading and writing undo each other.
-use Rattle.std.proofs.Common.{◌≡◌, ℕ, ◌+◌, ◌%◌, ◌^◌, ◌<◌, ◌≤◌, Bool, true, false, cond, not, ◌&&◌, ◌||◌, eqb, leb, List, [], ◌∷◌, ◌++◌, map, length, take, drop, is_some, Some, None, Ok, Err, Result, sym, refl, ap, ◌∙◌, subst, ⊎_elim, arith}
+use Rattle.std.proofs.Common.{◌≡◌, ℕ, ◌+◌, ◌%◌, ◌^◌, ◌<◌, ◌≤◌, true, false, not, ◌&&◌, ◌||◌, eqb, leb, List, [], ◌∷◌, ◌++◌, map, length, take, drop, is_some, Some, None, Ok, sym, refl, ap, ◌∙◌, subst, ⊎_elim, arith}
 use Rattle.std.specs.List.{AllByRecursion as All}
 use Rattle.std.proofs.lemmas.List.{take_at, length-append}
 use Rattle.std.proofs.lemmas.Bool.{cond-true, cond-false, cases_Bool, cases_eq, eqb-true, leb-true, or_cases, and_from, and_right, and_left, and_parts, both_ways}
-use Rattle.elements.specs.declared.fault.MessageFault.{MessageFault}
 use Rattle.elements.specs.declared.fault.MessageFault.TheVariants.{Mti, Unknown, Room}
 use Rattle.iso8583.specs.declared.found.Found.{Found}
 use Rattle.iso8583.specs.Bitmap.{marked, first}
-use Rattle.composer.specs.Contents.{Item, item_of, content, content_of, Composed, on, all_put, composed}
-use Rattle.composer.specs.Laws.{ReadAgain, YieldedAgain}
+use Rattle.composer.specs.Contents.{Item, item_of, content, content_of, on, all_put, composed}
 use Rattle.iso8583.specs.Messages.{found_of}
-use Rattle.iso8583.specs.Reading.{after, unless, marks_of, body, elements, parts, reading}
+use Rattle.iso8583.specs.Reading.{after, unless, body, elements, reading}
 use Rattle.elements.specs.Table.{table, known}
 use Rattle.composer.specs.Writing.{State, marks, bits_from, listed, outside, announced, head, laid, chosen, grown, begun, starting}
 use Rattle.composer.proofs.Bitmaps.{Sound, sound_marks, bits_below, bits_at, marks_else, marks_one, one_marked, listed_small}
-use Rattle.composer.proofs.Bodies.{text, Filled, Ran, ran, runs, on_ok, TakenUp, takes_up, PutDown, puts_down}
+use Rattle.composer.proofs.Bodies.{text, Filled, ran, runs, on_ok, takes_up, PutDown, puts_down}
 use Rattle.iso8583.proofs.Firsts.{first_fails}
 use Rattle.composer.proofs.Heads.{mti_read, bits_read, after_head, Headed, headed}
 use Rattle.composer.proofs.Lays.{length-head, laid_next, length-laid}

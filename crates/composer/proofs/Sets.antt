@@ -1,15 +1,14 @@
 -- A set of elements and its bits.
-use Rattle.std.proofs.Common.{◌≡◌, ℕ, zero, suc, ◌+◌, ◌-◌, ◌*◌, ◌/◌, ◌%◌, ◌^◌, ◌<◌, ◌≤◌, Bool, true, false, cond, not, ◌&&◌, ◌||◌, eqb, ltb, leb, ◌⊎◌, List, [], ◌∷◌, ◌++◌, Some, None, Option, sym, refl, ap, ◌∙◌, subst, inl, inr, ⊎_elim, pow-suc, div-one, arith}
+use Rattle.std.proofs.Common.{◌≡◌, ℕ, zero, suc, ◌+◌, ◌-◌, ◌*◌, ◌/◌, ◌%◌, ◌^◌, ◌<◌, ◌≤◌, Bool, true, false, not, ◌&&◌, ◌||◌, eqb, List, [], ◌∷◌, ◌++◌, Some, None, Option, sym, refl, ap, ◌∙◌, subst, ⊎_elim, pow-suc, div-one, arith}
 use mathlib.Core.Bool.{or-false, or_assoc}
 use Rattle.std.proofs.lemmas.Nat.{shr-shr}
-use Rattle.std.proofs.lemmas.Bool.{cases_Bool, cases_eq, cases_lt, cond-true, cond-false, eq-eqb, ne_eqb, lt-ltb, le-ltb, eqb-true, and_right, and_left, and_from, and_parts, or_left, or_right, or_cases, both_ways}
-use Rattle.std.proofs.lemmas.Bool.Decides.{nat_tests}
+use Rattle.std.proofs.lemmas.Bool.{cases_Bool, cases_eq, cases_lt, cond-true, cond-false, eq-eqb, ne_eqb, lt-ltb, le-ltb, eqb-true, and_right, and_from, or_left, or_right}
 use Rattle.composer.specs.Announced.{Announced, lower}
-use Rattle.iso8583.specs.Bitmap.{marked, first}
+use Rattle.iso8583.specs.Bitmap.{first}
 use Rattle.elements.specs.Table.{table, known}
 use Rattle.composer.specs.Writing.{sets, marks, bit, bits_from, listed, outside}
 use Rattle.iso8583.proofs.Bits.{bit_cases}
-use Rattle.iso8583.proofs.Firsts.{first_none, first_finds, first_some, Found_at, first_same}
+use Rattle.iso8583.proofs.Firsts.{first_none, first_finds, first_some, first_same}
 
 -- the bits of one element
 pub sets_high : (e k : ℕ) → 64 < e → 1 ≤ k → (eqb 1 k || eqb e k) ≡ sets e k

@@ -1,11 +1,11 @@
 -- The start of a writer, by its tests.
-use Rattle.std.proofs.Common.{◌≡◌, ℕ, ◌+◌, ◌<◌, ◌≤◌, true, false, cond, leb, List, length, Ok, Err, sym, refl, ap, ◌∙◌, arith}
+use Rattle.std.proofs.Common.{◌≡◌, ℕ, ◌+◌, ◌<◌, ◌≤◌, List, length, Ok, Err, sym, ap, ◌∙◌, arith}
 use Rattle.std.proofs.lemmas.Bool.{cond-true, cond-false, le-leb, lt-leb}
 use Rattle.elements.specs.declared.fault.MessageFault.{MessageFault}
 use Rattle.elements.specs.declared.fault.MessageFault.TheVariants.{Mti, Room}
 use Rattle.iso8583.specs.Reading.{after, body}
 use Rattle.elements.specs.Table.{table}
-use Rattle.composer.specs.Writing.{State, head, laid, chosen, announced, grown, begun, starting}
+use Rattle.composer.specs.Writing.{head, laid, chosen, announced, begun, starting}
 use Rattle.composer.proofs.Lays.{length-head}
 use Rattle.iso8583.proofs.Steps.{after_ok, after_err}
 

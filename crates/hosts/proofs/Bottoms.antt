@@ -1,10 +1,9 @@
 -- What a host at the bottom answers is what the meaning allows, and a table that stored what was answered shows it.
 use Rattle.std.proofs.Common.{◌≡◌, ℕ, zero, suc, ◌+◌, ◌-◌, ◌<◌, Bool, true, false, cond, ◌&&◌, ◌||◌, eqb, ltb, ◌⊎◌, List, Option, sym, refl, ap, ◌∙◌, subst, inl, inr, ⊎_elim, arith}
 use Rattle.std.proofs.lemmas.Bool.{cond-true, cond-false, cases_Bool, and_parts, and_from, eqb-true, eq-eqb, eqb-false, ne_eqb, ltb-true, ltb-false, both_ways, cond_both, lt-ltb}
-use Rattle.host.specs.Meaning.{Posting, Code, reversed, unsettled, forgetting_answer}
+use Rattle.host.specs.Meaning.{Posting, reversed, unsettled, forgetting_answer}
 use Rattle.host.specs.declared.ask.PostAnswer.{PostAnswer}
 use Rattle.host.specs.declared.ask.PostAnswer.TheVariants as posting
-use Rattle.host.specs.declared.ask.ReverseAnswer.{ReverseAnswer}
 use Rattle.host.specs.declared.ask.ReverseAnswer.TheVariants as reversing
 use Rattle.host.specs.declared.ask.ForgetAnswer.TheVariants as forgetting
 use Rattle.host.specs.declared.line.Card.{Card}
@@ -14,7 +13,7 @@ use Rattle.host.specs.declared.line.Side.TheVariants.{Debit, Credit}
 use Rattle.host.specs.declared.line.Line.{Line}
 use Rattle.host.specs.declared.line.Line.TheVariants.{Absent, Posted, Adrift, Leaving, Closed}
 use Rattle.hosts.specs.declared.table.Row.{Row}
-use Rattle.hosts.specs.Answers.{same, same_side, repeated, is_debit, within_limit, limit_answer, reverse_answer, left_by, taken_for, free_after_post, free_after_reverse, free_after_forget}
+use Rattle.hosts.specs.Answers.{same, same_side, repeated, is_debit, limit_answer, reverse_answer, left_by, taken_for, free_after_forget}
 use Rattle.hosts.specs.Rows.{kept, present, shown, free, Stored, Cleared, Leaves}
 
 same_side_is : (s t : Side) → same_side s t ≡ true → s ≡ t

@@ -1,9 +1,8 @@
 -- An element that was read is the one that the writer would have written there, and the other way round.
-use Rattle.std.proofs.Common.{◌≡◌, ℕ, zero, suc, ◌+◌, ◌-◌, ◌<◌, ◌≤◌, Bool, true, false, cond, eqb, leb, List, [], ◌∷◌, ◌++◌, length, take, drop, Some, None, Ok, Err, Option, sym, refl, ap, ◌∙◌, subst, arith}
-use Rattle.std.proofs.lemmas.List.{take-append-drop, length-take-le, append_assoc, length-append}
+use Rattle.std.proofs.Common.{◌≡◌, ℕ, ◌+◌, ◌≤◌, true, leb, List, [], ◌∷◌, ◌++◌, length, take, drop, Some, None, Ok, Option, sym, refl, ap, ◌∙◌, arith}
+use Rattle.std.proofs.lemmas.List.{take-append-drop, length-take-le, length-append}
 use Rattle.std.proofs.lemmas.Bool.{leb-true, le-leb, eq-eqb, eqb-true, and_parts, cond-true}
-use Rattle.elements.specs.declared.fault.ElementFault.{ElementFault}
-use Rattle.elements.specs.declared.fault.ElementFault.TheVariants.{Truncated, Character}
+use Rattle.elements.specs.declared.fault.ElementFault.TheVariants.{Character}
 use Rattle.iso8583.specs.declared.found.Found.{Found}
 use Rattle.elements.specs.declared.table.Length.{Length}
 use Rattle.elements.specs.declared.table.Length.TheVariants.{Fixed, UpTo}
@@ -12,9 +11,9 @@ use Rattle.iso8583.specs.Reading.{wrong, unless, characters, measured, sized, tw
 use Rattle.elements.specs.Table.{admits, fits, within, lead}
 use Rattle.elements.specs.Fields.{field, spelled}
 use Rattle.iso8583.proofs.Digits.{two_read, two_written, length-spelled}
-use Rattle.iso8583.proofs.Outcomes.{never, same_ok, chosen_ok, unless_ok}
+use Rattle.iso8583.proofs.Outcomes.{never, chosen_ok, unless_ok}
 use Rattle.elements.proofs.Rows.{short}
-use Rattle.iso8583.proofs.Wrong.{wrong-append, wrong-take, wrong_long}
+use Rattle.iso8583.proofs.Wrong.{wrong-append, wrong-take}
 
 -- the element e, read at place `at` of a message that goes on with cs
 pub record Spelt (l : Length) (row : Row) (at : ℕ) (cs : List ℕ) (e : Found) : Type 0 where

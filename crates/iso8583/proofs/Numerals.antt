@@ -1,11 +1,11 @@
 -- A loop that reads a number of n digits, and stops at the first character that is none.
-use Rattle.std.proofs.Common.{◌≡◌, ℕ, ◌+◌, ◌*◌, ◌^◌, ◌<◌, ◌≤◌, Bool, true, false, List, length, get_or, take, Some, None, Ok, Err, sym, refl, ap, ◌∙◌, arith}
+use Rattle.std.proofs.Common.{◌≡◌, ℕ, ◌+◌, ◌*◌, ◌^◌, ◌<◌, ◌≤◌, Bool, true, false, List, length, get_or, take, Ok, Err, sym, refl, ap, ◌∙◌, arith}
 use native.Mathlib.Nat.{pow-zero}
 use Rattle.std.specs.Str.Parse.{digits_value}
 use Rattle.std.specs.Char.{digit_value}
 use Rattle.std.proofs.lemmas.Int.Digits.{digits_value_more}
 use Rattle.iso8583.specs.Reading.{unless, wrong}
-use Rattle.iso8583.proofs.Values.{Grows, grows}
+use Rattle.iso8583.proofs.Values.{grows}
 use Rattle.iso8583.proofs.Wrong.{wrong_from, wrong_none, wrong_all, wrong_more, wrong_stops}
 
 -- after i digits, v is their value

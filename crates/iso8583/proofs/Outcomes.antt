@@ -1,6 +1,6 @@
 -- What an answer without a fault tells of the tests before it.
-use Rattle.std.proofs.Common.{◌≡◌, ℕ, Bool, true, false, cond, Some, None, Ok, Err, Option, Result, sym, refl, ap, ◌∙◌, arith}
-use Rattle.iso8583.specs.Reading.{after, unless, before}
+use Rattle.std.proofs.Common.{◌≡◌, ℕ, Bool, true, false, cond, Some, None, Ok, Err, Option, Result, refl, arith}
+use Rattle.iso8583.specs.Reading.{after, unless}
 
 module _ {A F : Type 0} where
   pub never : {a : A} {f : F} → Err f ≡ Ok a → ⊥

@@ -1,18 +1,17 @@
 -- A message has an element exactly if its bitmap marks it.
-use Rattle.std.proofs.Common.{◌≡◌, ℕ, zero, suc, ◌+◌, ◌%◌, ◌^◌, ◌<◌, ◌≤◌, Bool, true, false, cond, not, ◌&&◌, ◌||◌, eqb, leb, List, [], ◌∷◌, length, drop, is_some, Some, None, Ok, Err, Option, Result, sym, refl, ap, ◌∙◌, subst, ⊎_elim, arith}
+use Rattle.std.proofs.Common.{◌≡◌, ℕ, ◌%◌, ◌^◌, ◌≤◌, true, false, cond, not, ◌&&◌, ◌||◌, eqb, List, [], ◌∷◌, drop, is_some, Some, Ok, Err, sym, ap, ◌∙◌, ⊎_elim, arith}
 use Rattle.std.proofs.lemmas.Bool.{cond-true, cond-false, cases_Bool, eqb-true, eq-eqb, both_ways, and_left, and_right, and_from, and_parts, or_left, le-leb, leb-true}
-use Rattle.elements.specs.declared.fault.MessageFault.{MessageFault}
 use Rattle.elements.specs.declared.fault.MessageFault.TheVariants.{Unknown, Empty}
 use Rattle.iso8583.specs.declared.found.Found.{Found}
 use Rattle.elements.specs.declared.table.Row.{Row}
 use Rattle.iso8583.specs.Bitmap.{marked, first, strange}
 use Rattle.iso8583.specs.Messages.{found_of}
-use Rattle.iso8583.specs.Reading.{after, unless, mti_of, bits_of, marks_of, marked_at, body, elements, Parts, parts, reading}
+use Rattle.iso8583.specs.Reading.{after, unless, mti_of, bits_of, marks_of, marked_at, body, elements, parts, reading}
 use Rattle.elements.specs.Table.{table, known, within}
 use Rattle.iso8583.proofs.Firsts.{first_none}
 use Rattle.iso8583.proofs.Outcomes.{never, same_ok, unless_ok, after_is_ok}
 use Rattle.elements.proofs.Rows.{proper_table, known_range}
-use Rattle.iso8583.proofs.Tiles.{Stepped, stepped}
+use Rattle.iso8583.proofs.Tiles.{stepped}
 use Rattle.iso8583.proofs.Wholes.{from_mti, from_bits}
 
 -- a message that was read, step by step

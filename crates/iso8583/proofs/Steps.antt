@@ -1,5 +1,5 @@
 -- Steps that may refuse, one after the other.
-use Rattle.std.proofs.Common.{◌≡◌, IsErrAnd, Ok, Err, Result, sym, ap, ◌∙◌}
+use Rattle.std.proofs.Common.{◌≡◌, IsErrAnd, Ok, Err, Result, ap, ◌∙◌}
 use Rattle.std.proofs.lemmas.Result.{err_from_is_err_and}
 use Rattle.iso8583.specs.Reading.{after}
 

@@ -1,5 +1,5 @@
 -- Which elements a bitmap marks that the table does not have.
-use Rattle.std.proofs.Common.{◌≡◌, ℕ, ◌+◌, ◌-◌, ◌%◌, ◌^◌, ◌<◌, ◌≤◌, Bool, true, false, cond, not, ◌&&◌, ◌||◌, eqb, Some, None, Ok, Err, Option, Result, sym, refl, ap, ◌∙◌, ⊎_elim, arith}
+use Rattle.std.proofs.Common.{◌≡◌, ℕ, ◌+◌, ◌-◌, ◌%◌, ◌^◌, ◌<◌, ◌≤◌, true, false, cond, not, ◌&&◌, ◌||◌, eqb, Some, None, Ok, Err, Option, Result, sym, refl, ap, ◌∙◌, ⊎_elim, arith}
 use native.Mathlib.Nat.{zero-div}
 use lib.Bits.{bit_and, and_lt}
 use lib.Count.{count_leading_zeros}
@@ -9,7 +9,7 @@ use Rattle.iso8583.specs.Reading.{after, unless, marked_at, second_empty, marks_
 use Rattle.std.proofs.lemmas.Bool.{ne_eqb, cases_eq, both_ways, and_right, cond-true, cond-false}
 use Rattle.iso8583.specs.Bitmap.{marked, first, strange}
 use Rattle.elements.specs.Table.{table, known}
-use Rattle.iso8583.proofs.Bits.{marked_and, marked_flip, Top, top}
+use Rattle.iso8583.proofs.Bits.{marked_and, marked_flip, top}
 use Rattle.iso8583.proofs.Firsts.{first_finds, first_fails}
 
 abbrev pub Knows : ℕ → Type 0

@@ -1,20 +1,19 @@
 -- The elements of a message that was read lie in it without gap.
-use Rattle.std.proofs.Common.{◌≡◌, ℕ, zero, suc, ◌+◌, ◌-◌, ◌<◌, ◌≤◌, Bool, true, false, cond, eqb, List, [], ◌∷◌, ◌++◌, length, get_or, drop, Ok, Err, Result, sym, refl, ap, ◌∙◌, subst, ⊎_elim, arith}
+use Rattle.std.proofs.Common.{◌≡◌, ℕ, zero, suc, ◌+◌, ◌-◌, ◌<◌, ◌≤◌, true, List, [], ◌∷◌, length, get_or, drop, Ok, Err, Result, sym, refl, ap, ◌∙◌, subst, ⊎_elim, arith}
 use Rattle.std.proofs.lemmas.List.{length-append, length-drop, drop_at}
 use Rattle.std.proofs.lemmas.Bool.{cond-true, cond-false, eq-eqb, ne_eqb, cases_Bool}
 use Rattle.elements.specs.declared.fault.ElementFault.{ElementFault}
-use Rattle.elements.specs.declared.fault.MessageFault.{MessageFault}
 use Rattle.iso8583.specs.declared.found.Found.{Found}
 use Rattle.elements.specs.declared.table.Length.{Length}
 use Rattle.elements.specs.declared.table.Row.{Row}
 use Rattle.iso8583.specs.Bitmap.{marked}
-use Rattle.iso8583.specs.Reading.{after, before, lifted, element_at, elements, sized, body}
+use Rattle.iso8583.specs.Reading.{before, lifted, element_at, elements, body}
 use Rattle.elements.specs.Table.{table, lead}
 use Rattle.iso8583.specs.Tiled.{Tiled, lead_of}
 use Rattle.elements.specs.Fields.{field}
 use Rattle.iso8583.proofs.Elements.{Spelt, spelt, lead_field}
 use Rattle.iso8583.proofs.Outcomes.{never, same_ok, after_is_ok}
-use Rattle.elements.proofs.Rows.{Proper, proper, proper_first, proper_table}
+use Rattle.elements.proofs.Rows.{proper, proper_first, proper_table}
 
 lifted_ok : (r : Result Found ElementFault) (e : Found) → lifted r ≡ Ok e → r ≡ Ok e
 lifted_ok (Ok a) e h = ap (λ x. Ok x) (same_ok h)

@@ -1,5 +1,5 @@
 -- A number that is read digit by digit, from the left.
-use Rattle.std.proofs.Common.{◌≡◌, ℕ, suc, ◌+◌, ◌*◌, ◌^◌, ◌<◌, ◌≤◌, List, sym, ap, ◌∙◌, subst, mul-le-mul_right, add-mul, one-mul, pow-suc, add-one, arith}
+use Rattle.std.proofs.Common.{◌≡◌, ℕ, ◌+◌, ◌*◌, ◌^◌, ◌<◌, ◌≤◌, ap, ◌∙◌, mul-le-mul_right, add-mul, one-mul, pow-suc, add-one, arith}
 use native.Mathlib.Nat.{pow-le-pow_right}
 
 -- i digits stay below the base's power, and one more digit keeps n of them below theirs

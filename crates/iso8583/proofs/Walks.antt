@@ -1,17 +1,16 @@
 -- A walk over the rows of the table, and what it has found after i of them.
-use Rattle.std.proofs.Common.{◌≡◌, ℕ, zero, suc, ◌+◌, ◌-◌, ◌<◌, ◌≤◌, Bool, true, false, cond, List, [], ◌∷◌, ◌++◌, length, get_or, take, drop, set, Ok, Err, Result, sym, refl, ap, ◌∙◌, subst, append_assoc, append-nil, arith}
+use Rattle.std.proofs.Common.{◌≡◌, ℕ, ◌+◌, ◌-◌, ◌<◌, ◌≤◌, true, false, List, [], ◌∷◌, ◌++◌, length, get_or, take, drop, set, Ok, Err, Result, sym, refl, ap, ◌∙◌, subst, append_assoc, append-nil, arith}
 use Rattle.std.proofs.lemmas.List.{drop_more, drop_all, drop-drop, length-set, length-drop, length-append, take_more_set}
 use Rattle.std.proofs.lemmas.Bool.{cond-true, cond-false}
 use Rattle.elements.specs.declared.fault.ElementFault.{ElementFault}
 use Rattle.elements.specs.declared.fault.MessageFault.{MessageFault}
 use Rattle.elements.specs.declared.fault.MessageFault.TheVariants.{Element, Trailing}
 use Rattle.iso8583.specs.declared.found.Found.{Found}
-use Rattle.elements.specs.declared.table.Row.{Row}
 use Rattle.iso8583.specs.Bitmap.{marked}
-use Rattle.iso8583.specs.Reading.{after, before, body, lifted, element_at, elements, sized}
+use Rattle.iso8583.specs.Reading.{after, before, body, lifted, elements, sized}
 use Rattle.elements.specs.Table.{table, blank}
 use Rattle.iso8583.specs.Walked.{Walked}
-use Rattle.iso8583.proofs.Elements.{Spelt, spelt}
+use Rattle.iso8583.proofs.Elements.{spelt}
 
 -- what was found already, before what is found yet
 abbrev pub prefixed : List Found → Result (List Found) MessageFault → Result (List Found) MessageFault

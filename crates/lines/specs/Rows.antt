@@ -1,7 +1,7 @@
 -- A table of lines: which line it shows for an issuer and a number, and how many of its places are free.
 use Rattle.std.specs.Prelude.{◌≡◌, ℕ, ◌+◌, ◌-◌, ◌<◌, Bool, true, false, cond, ◌&&◌, ◌||◌, ◌⊎◌, List, [], ◌∷◌, length, Some, None, Option, ◌==◌, ◌≢◌, nat_lt, slice_index_or}
 use Rattle.host.specs.declared.line.Line.{Line}
-use Rattle.host.specs.declared.line.Line.TheVariants.{Absent, Posted, Adrift, Leaving, Closed}
+use Rattle.host.specs.declared.line.Line.TheVariants.{Absent}
 use Rattle.lines.specs.Answers.{places_left}
 use Rattle.lines.specs.declared.table.Row.{Row}
 

@@ -1,5 +1,5 @@
 -- A request that was posted, and its response code.
-use Rattle.std.proofs.Common.{◌≡◌, ℕ, ◌≤◌, false, Some, sym, refl, ap, ◌∙◌, subst, arith}
+use Rattle.std.proofs.Common.{◌≡◌, ℕ, ◌≤◌, false, Some, sym, subst, arith}
 use Rattle.host.specs.Meaning.{Meaning, Posting, Posts}
 use Rattle.host.specs.declared.ask.PostAnswer.{PostAnswer}
 use Rattle.host.specs.declared.ask.PostAnswer.TheVariants as posting
@@ -7,7 +7,6 @@ use Rattle.host.specs.declared.line.Details.{Details}
 use Rattle.host.specs.declared.line.Line.{Line}
 use Rattle.host.specs.declared.line.Line.TheVariants.{Absent, Posted, Adrift, Leaving, Closed}
 use Rattle.journal.specs.Entries.{details_of}
-use Rattle.journal.specs.declared.entry.Entry.{Entry}
 use Rattle.journal.specs.declared.entry.Terms.{Terms}
 use Rattle.switch.specs.Orders.{RequestedSo}
 use Rattle.switch.specs.Requests.{code_by, entry_by}

@@ -11,7 +11,7 @@ use Rattle.journal.specs.declared.entry.Entry.{Entry}
 use Rattle.journal.specs.declared.entry.Kind.{Kind}
 use Rattle.journal.specs.declared.entry.Kind.TheVariants.{Request, Advice}
 use Rattle.journal.specs.declared.entry.State.{State as Standing}
-use Rattle.journal.specs.declared.entry.State.TheVariants.{Waiting, Completed, Declined, Owed, Reversed, Barred}
+use Rattle.journal.specs.declared.entry.State.TheVariants.{Waiting, Completed, Declined, Owed}
 use Rattle.journal.specs.declared.entry.Terms.{Terms}
 use Rattle.members.specs.Routing.{route_of}
 use Rattle.switch.specs.States.{State, entering}

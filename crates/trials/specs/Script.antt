@@ -1,5 +1,5 @@
 -- A trial host: what its script has it answer.
-use Rattle.std.specs.Prelude.{ℕ, min, max, Bool, true, false, cond, ◌&&◌, List, [], ◌∷◌, drop, Some, None, vec_items, Option, ◌==◌}
+use Rattle.std.specs.Prelude.{ℕ, min, max, Bool, false, cond, ◌&&◌, List, [], ◌∷◌, drop, Some, None, vec_items, Option, ◌==◌}
 use Rattle.host.specs.declared.ask.PostAnswer.{PostAnswer}
 use Rattle.host.specs.declared.ask.PostAnswer.TheVariants as posting
 use Rattle.host.specs.declared.ask.ReverseAnswer.{ReverseAnswer}

@@ -1,4 +1,4 @@
-use Rattle.std.proofs.Common.{◌≡◌, ℕ, Bool, false, length, List, [], ◌∷◌, Some, Option, eqb, sym, ap, ◌∙◌, arith}
+use Rattle.std.proofs.Common.{◌≡◌, ℕ, false, length, List, [], ◌∷◌, Some, eqb, sym, ap, ◌∙◌}
 use Rattle.std.specs.Option.{option_map}
 use Rattle.deck.specs.declared.Keyword.{Keyword}
 use Rattle.deck.specs.Text.{before, first_word, after_word}

@@ -1,4 +1,4 @@
-use Rattle.std.proofs.Common.{take, ap, arith}
+use Rattle.std.proofs.Common.{take, ap}
 use Rattle.std.proofs.lemmas.List.{take_all}
 use Rattle.composer.specs.Composes.{numbers}
 use Rattle.composer.proofs.Puts.{numbers_more}

@@ -1,4 +1,4 @@
-use Rattle.std.proofs.Common.{◌≡◌, ◌-◌, ◌^◌, ◌||◌, sym, ap, ◌∙◌, arith}
+use Rattle.std.proofs.Common.{◌||◌, ap, ◌∙◌, arith}
 use Rattle.iso8583.specs.Bitmap.{marked}
 use Rattle.iso8583.proofs.Bits.{marked_or, marked_bit}
 use Rattle.composer.proofs.Sets.{sets_high, sets_low}

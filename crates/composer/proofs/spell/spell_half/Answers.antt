@@ -1,4 +1,4 @@
-use Rattle.std.proofs.Common.{◌≡◌, ℕ, suc, ◌+◌, ◌-◌, ◌/◌, ◌%◌, ◌<◌, List, ◌++◌, length, drop, set, sym, refl, ap, ◌∙◌, subst, append-nil, arith, length-set}
+use Rattle.std.proofs.Common.{◌≡◌, ℕ, suc, ◌+◌, ◌-◌, ◌/◌, ◌%◌, ◌<◌, List, ◌++◌, length, drop, set, sym, refl, ap, ◌∙◌, append-nil, arith, length-set}
 use lib.Bits.{and_mask}
 use Rattle.elements.specs.Fields.{digit, spelled}
 use Rattle.iso8583.proofs.Digits.{spelled_more}

@@ -1,4 +1,4 @@
-use Rattle.std.proofs.Common.{◌≡◌, sym, ap, ◌∙◌}
+use Rattle.std.proofs.Common.{sym, ap, ◌∙◌}
 use Rattle.elements.specs.Fields.{spelled}
 use Rattle.composer.specs.Writing.{laid}
 use Rattle.composer.proofs.Lays.{head_single, head_double}

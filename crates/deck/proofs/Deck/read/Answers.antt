@@ -1,6 +1,6 @@
 use Rattle.std.proofs.Common.{◌<◌, map, length, ap, arith, true-eqb, false-eqb}
 use Rattle.deck.specs.Deck.{meant}
-use Rattle.deck.proofs.Lines.{Sofar, start, shorter, next, wrong, done_all, blames_too}
+use Rattle.deck.proofs.Lines.{start, shorter, next, wrong, done_all, blames_too}
 use Rattle.deck.proofs.Deck.read.Goals as goal
 
 pub loop-rest-init : goal.loop-rest-init

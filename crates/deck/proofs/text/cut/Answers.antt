@@ -1,4 +1,4 @@
-use Rattle.std.proofs.Common.{◌≡◌, ◌+◌, ◌≤◌, length, take, drop, sym, ap, ◌∙◌, arith, true-eqb}
+use Rattle.std.proofs.Common.{◌+◌, ◌≤◌, length, take, drop, sym, ap, ◌∙◌, arith, true-eqb}
 use Rattle.std.proofs.lemmas.List.{drop_all, drop-drop, take_rest, nil_from_length}
 use Rattle.deck.proofs.text.cut.Goals as goal
 

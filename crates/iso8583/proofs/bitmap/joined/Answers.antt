@@ -1,4 +1,4 @@
-use Rattle.std.proofs.Common.{◌≡◌, ◌+◌, ◌*◌, ◌%◌, ◌^◌, ap, ◌∙◌, arith}
+use Rattle.std.proofs.Common.{◌*◌, ◌%◌, ◌^◌, ap, ◌∙◌, arith}
 use lib.Bits.{bit_or, or_shifted}
 use Rattle.std.proofs.lemmas.Nat.{shl_whole}
 use Rattle.iso8583.proofs.bitmap.joined.Goals as goal

@@ -1,4 +1,4 @@
-use Rattle.std.proofs.Common.{◌≡◌, ◌-◌, ◌^◌, ◌<◌, ◌||◌, eqb, length, get_or, take, sym, ap, ◌∙◌, arith}
+use Rattle.std.proofs.Common.{◌-◌, ◌^◌, ◌<◌, ◌||◌, eqb, length, get_or, take, sym, ap, ◌∙◌, arith}
 use mathlib.Core.Bool.{or-false, or_assoc}
 use Rattle.std.proofs.lemmas.List.{take_all}
 use Rattle.iso8583.specs.Bitmap.{marked}

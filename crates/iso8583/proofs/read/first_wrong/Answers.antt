@@ -1,4 +1,4 @@
-use Rattle.std.proofs.Common.{◌≡◌, length, sym, ◌∙◌, arith}
+use Rattle.std.proofs.Common.{length, sym, ◌∙◌, arith}
 use Rattle.elements.specs.Table.{fits}
 use Rattle.iso8583.proofs.Wrong.{wrong_none, wrong_more, wrong_here, wrong_all}
 use Rattle.iso8583.proofs.read.first_wrong.Goals as goal

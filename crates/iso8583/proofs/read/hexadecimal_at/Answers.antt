@@ -1,4 +1,4 @@
-use Rattle.std.proofs.Common.{◌≡◌, get_or, ap, arith}
+use Rattle.std.proofs.Common.{ap, arith}
 use Rattle.std.proofs.lemmas.List.{get_or_past}
 use Rattle.elements.specs.Table.{hexadecimal}
 use Rattle.iso8583.proofs.read.hexadecimal_at.Goals as goal

@@ -1,6 +1,6 @@
 use Rattle.std.proofs.Common.{◌≡◌, ℕ, ◌+◌, ◌≤◌, true, List, [], ◌∷◌, length, get_or, drop, Some, sym, ap, ◌∙◌, arith, rules}
 use Rattle.std.proofs.lemmas.List.{take_rest}
-use Rattle.std.proofs.lemmas.Bool.{cond-true, le-leb, and_from}
+use Rattle.std.proofs.lemmas.Bool.{cond-true}
 use Rattle.elements.specs.declared.table.Length.TheVariants.{UpTo}
 use Rattle.elements.specs.declared.table.Row.{Row}
 use Rattle.iso8583.specs.Reading.{sized, measured, characters, two_digits}

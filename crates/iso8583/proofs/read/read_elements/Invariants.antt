@@ -1,4 +1,3 @@
-use Rattle.iso8583.specs.Reading.{body}
 use Rattle.iso8583.proofs.Walks.{Walking}
 use Rattle.iso8583.proofs.read.read_elements.Given as goal
 

@@ -1,4 +1,4 @@
-use Rattle.std.proofs.Common.{◌≡◌, true, length, take}
+use Rattle.std.proofs.Common.{◌≡◌, true, take}
 use Rattle.accounts.specs.Opening.{single, placed}
 use Rattle.accounts.proofs.accounts.Accounts.open.Given as goal
 

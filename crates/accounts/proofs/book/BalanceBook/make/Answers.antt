@@ -1,5 +1,5 @@
 use Rattle.std.proofs.Common.{Some, sym, refl, ap}
-use Rattle.accounts.specs.Histories.{post, reverse, forget, line, turn}
+use Rattle.accounts.specs.Histories.{post, reverse, forget, line}
 use Rattle.accounts.specs.declared.exchange.Answer.{Answer}
 use Rattle.accounts.specs.declared.exchange.Answer.TheVariants as answer
 use Rattle.accounts.specs.declared.exchange.Call.{Call}

@@ -1,4 +1,4 @@
-use Rattle.std.proofs.Common.{◌≡◌, map, length, take}
+use Rattle.std.proofs.Common.{◌≡◌, map, take}
 use Rattle.accounts.specs.Histories.{Ran}
 use Rattle.accounts.specs.Made.{called}
 use Rattle.accounts.specs.Views.{view}

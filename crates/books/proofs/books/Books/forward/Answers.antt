@@ -1,4 +1,4 @@
-use Rattle.std.proofs.Common.{set, Some, sym, ap, ◌∙◌, arith}
+use Rattle.std.proofs.Common.{set, Some, ap, ◌∙◌, arith}
 use Rattle.journal.specs.Entries.{in_state}
 use Rattle.sums.specs.Days.{sums_of}
 use Rattle.books.specs.Sizes.{all_small}

@@ -1,4 +1,4 @@
-use Rattle.std.proofs.Common.{◌≡◌, None, arith}
+use Rattle.std.proofs.Common.{None, arith}
 use Rattle.books.proofs.Counted.{empty_small, nothing_approved, nothing_reversed}
 use Rattle.sums.specs.Days.{sums_of}
 use Rattle.journal.specs.Places.{taken, undone}

@@ -1,4 +1,4 @@
-use Rattle.std.proofs.Common.{set, Some, sym, ap, ◌∙◌}
+use Rattle.std.proofs.Common.{set, Some, ap, ◌∙◌}
 use Rattle.journal.specs.Entries.{owing}
 use Rattle.sums.specs.Days.{sums_of}
 use Rattle.books.specs.Sizes.{all_small}

@@ -1,8 +1,8 @@
-use Rattle.std.proofs.Common.{Some, None, sym, ap, ◌∙◌, inl, arith}
+use Rattle.std.proofs.Common.{Some, ap, ◌∙◌, inl, arith}
 use Rattle.journal.proofs.Stores.{lowest_is_free}
 use Rattle.sums.specs.Days.{sums_of}
 use Rattle.books.specs.Sizes.{all_small}
-use Rattle.books.proofs.Bounds.{Within, room_for_one, taking_within, small-set}
+use Rattle.books.proofs.Bounds.{room_for_one, taking_within, small-set}
 use Rattle.books.proofs.books.Books.take.Goals as goal
 
 pub put-requires : goal.put-requires

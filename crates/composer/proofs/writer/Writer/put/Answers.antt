@@ -1,4 +1,4 @@
-use Rattle.std.proofs.Common.{◌≡◌, ℕ, ◌<◌, ◌≤◌, true, List, length, get_or, Ok, sym, ap, ◌∙◌, subst}
+use Rattle.std.proofs.Common.{◌≡◌, ℕ, ◌<◌, ◌≤◌, List, length, get_or, Ok, sym, ap, ◌∙◌}
 use Rattle.elements.specs.declared.table.Row.{Row}
 use Rattle.elements.specs.Table.{table, blank, admits}
 use Rattle.composer.specs.Writing.{checked}

@@ -1,4 +1,4 @@
-use Rattle.std.proofs.Common.{get_or, Some, None, sym, ◌∙◌, subst, ⊎_elim, length-set}
+use Rattle.std.proofs.Common.{Some, sym, ◌∙◌, subst, ⊎_elim, length-set}
 use mathlib.Core.Logic.{∥∥₁_map}
 use Rattle.hosts.specs.Rows.{row}
 use Rattle.hosts.proofs.Kept.{Ours, own, once-set, ours_taken, ours_free, sole_taken, sole_free, alone_row, overwritten, added}

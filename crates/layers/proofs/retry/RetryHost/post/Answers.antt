@@ -1,5 +1,5 @@
 use Rattle.std.proofs.Common.{◌≡◌, refl, ap, arith}
-use Rattle.host.specs.Meaning.{Meaning, counted}
+use Rattle.host.specs.Meaning.{counted}
 use Rattle.host.specs.declared.ask.PostAnswer.TheVariants.{Silence}
 use Rattle.layers.proofs.Went.{once, again, ended}
 use Rattle.layers.proofs.retry.RetryHost.post.Goals as goal

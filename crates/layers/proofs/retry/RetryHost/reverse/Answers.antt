@@ -1,5 +1,5 @@
 use Rattle.std.proofs.Common.{◌≡◌, refl, ap, arith}
-use Rattle.host.specs.Meaning.{Meaning, counted}
+use Rattle.host.specs.Meaning.{counted}
 use Rattle.host.specs.declared.ask.ReverseAnswer.TheVariants.{Silence}
 use Rattle.layers.proofs.Went.{gone_once, gone_again, gone_ended}
 use Rattle.layers.proofs.retry.RetryHost.reverse.Goals as goal
