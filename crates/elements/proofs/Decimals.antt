@@ -2,7 +2,7 @@
 use Rattle.std.proofs.Common.{◌≡◌, ℕ, ◌+◌, ◌-◌, ◌*◌, ◌^◌, ◌<◌, ◌≤◌, Bool, true, false, cond, ◌&&◌, ltb, List, length, get_or, drop, Some, None, sym, ap, ◌∙◌, pow-suc, add-one, arith, lit<}
 use native.Mathlib.Nat.{pow-le-pow_right}
 use Rattle.std.specs.Str.Parse.{digits_value, digits_value_after}
-use Rattle.std.specs.Char.{digit_value as digitValue}
+use Rattle.std.specs.Char.{digit_value}
 use Rattle.std.proofs.lemmas.List.{at_drop_more, at_drop_all}
 use Rattle.std.proofs.lemmas.Bool.{and_left, and_right, and_from, le-leb, ltb-true, cond-true, cond-false, cond_both}
 use Rattle.std.proofs.lemmas.Bool.Decides.{nat_tests}
@@ -17,8 +17,8 @@ pub record Read (ds : List ℕ) (i n : ℕ) : Type 0 where
   -- so before the nineteenth digit there is room for one more in 64 bits
   pub room : n < cond (ltb i 19) 1000000000000000000 (10 ^ i)
 
-digit_value : (c : ℕ) → decimal c ≡ true → digitValue c ≡ c - 48
-digit_value c h = grind (arith, nat_tests)
+digit_value-decimal : (c : ℕ) → decimal c ≡ true → digit_value c ≡ c - 48
+digit_value-decimal c h = grind (arith, nat_tests)
 
 digit_lt : (c : ℕ) → decimal c ≡ true → c - 48 < 10
 digit_lt c h = grind (arith, nat_tests)
@@ -36,10 +36,10 @@ room_from_small i n h =
 pub read_more : (ds : List ℕ) (i n : ℕ) → i < length ds → decimal (get_or ds i 0) ≡ true → Read ds i n → Read ds (i + 1) (n * 10 + (get_or ds i 0 - 48))
 read_more ds i n l t r =
     let d : all_decimal (drop i ds) ≡ (decimal (get_or ds i 0) && all_decimal (drop (i + 1) ds)) = at_drop_more all_decimal ds i 0 l in
-    let s : digits_value_after 10 n (drop i ds) ≡ digits_value_after 10 (n * 10 + digitValue (get_or ds i 0)) (drop (i + 1) ds) = at_drop_more (digits_value_after 10 n) ds i 0 l in
+    let s : digits_value_after 10 n (drop i ds) ≡ digits_value_after 10 (n * 10 + digit_value (get_or ds i 0)) (drop (i + 1) ds) = at_drop_more (digits_value_after 10 n) ds i 0 l in
     record {
       decimals = ap (λ (b : Bool). b && all_decimal (drop (i + 1) ds)) (sym t) ∙ (sym d ∙ r.decimals);
-      sum = ap (λ (v : ℕ). digits_value_after 10 (n * 10 + v) (drop (i + 1) ds)) (sym (digit_value (get_or ds i 0) t)) ∙ (sym s ∙ r.sum);
+      sum = ap (λ (v : ℕ). digits_value_after 10 (n * 10 + v) (drop (i + 1) ds)) (sym (digit_value-decimal (get_or ds i 0) t)) ∙ (sym s ∙ r.sum);
       small = more_small i n (get_or ds i 0) r.small t;
       room = room_from_small (i + 1) _ (more_small i n (get_or ds i 0) r.small t);
     }

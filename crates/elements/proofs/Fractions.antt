@@ -1,6 +1,6 @@
 -- Parts of a list of decimal digits, and what they say of the whole.
 use Rattle.std.proofs.Common.{◌≡◌, ℕ, ◌+◌, ◌-◌, ◌^◌, ◌<◌, ◌≤◌, Bool, true, false, cond, ◌||◌, eqb, ltb, List, [], ◌∷◌, length, take, drop, Some, None, Decides, Option, sym, refl, ap, ◌∙◌, subst, ⊎_elim, arith, MatchOption}
-use Rattle.std.specs.List.{between, AllByRecursion as All}
+use Rattle.std.specs.List.{between, AllByRecursion}
 use Rattle.std.specs.Str.Parse.{digits_value, AllDigits}
 use Rattle.std.proofs.lemmas.Int.Digits.{digits_value-lt}
 use Rattle.std.proofs.lemmas.List.Edits.{length-between}
@@ -17,10 +17,10 @@ use Rattle.elements.specs.declared.original.Original.{Original}
 abbrev Digit : ℕ → Type 0
 Digit c = decimal c ≡ true
 
-decides_all : (ds : List ℕ) → Decides (all_decimal ds) (All Digit ds)
+decides_all : (ds : List ℕ) → Decides (all_decimal ds) (AllByRecursion Digit ds)
 decides_all ds = Decides-by_and decimal Digit all_decimal (λ c. (λ h. h, λ h. h)) refl (λ _ _. refl) ds
 
-digits_from_all : (ds : List ℕ) → All Digit ds → AllDigits 10 ds
+digits_from_all : (ds : List ℕ) → AllByRecursion Digit ds → AllDigits 10 ds
 digits_from_all [] h = tt
 digits_from_all (c ∷ cs) h = let d : decimal c ≡ true = h.0 in (grind (arith, nat_tests), digits_from_all cs h.1)
 
@@ -30,9 +30,9 @@ decimal_part ds i j h = (decides_all (between i j ds)).1 (All-take Digit (j - i)
 -- digits up to one place, and from there up to another
 decimal_to : (ds : List ℕ) (i j : ℕ) → i ≤ j → all_decimal (take i ds) ≡ true → all_decimal (between i j ds) ≡ true → all_decimal (take j ds) ≡ true
 decimal_to ds i j l h t =
-    let front : All Digit (take i (take j ds)) = subst (All Digit) (sym (take-take i j ds l)) ((decides_all (take i ds)).0 h) in
-    let back : All Digit (drop i (take j ds)) = subst (All Digit) (between_is ds i j) ((decides_all (between i j ds)).0 t) in
-    (decides_all (take j ds)).1 (subst (All Digit) (take-append-drop i (take j ds)) (All-append Digit (take i (take j ds)) (drop i (take j ds)) front back))
+    let front : AllByRecursion Digit (take i (take j ds)) = subst (AllByRecursion Digit) (sym (take-take i j ds l)) ((decides_all (take i ds)).0 h) in
+    let back : AllByRecursion Digit (drop i (take j ds)) = subst (AllByRecursion Digit) (between_is ds i j) ((decides_all (between i j ds)).0 t) in
+    (decides_all (take j ds)).1 (subst (AllByRecursion Digit) (take-append-drop i (take j ds)) (All-append Digit (take i (take j ds)) (drop i (take j ds)) front back))
 
 decimal_whole : (ds : List ℕ) (i : ℕ) → all_decimal (take i ds) ≡ true → (ltb i (length ds) || all_decimal ds) ≡ true
 decimal_whole ds i h =

@@ -3,7 +3,7 @@ use Rattle.std.proofs.Common.{◌≡◌, ℕ, suc, ◌+◌, ◌<◌, ◌≤◌, 
 use Rattle.std.proofs.ByRecursion.{all-has}
 use Rattle.std.proofs.lemmas.List.{at_drop_more, at_drop_all}
 use Rattle.std.proofs.lemmas.Bool.{and_parts, and_cases, cond-true, cond-false, cases_Bool, both_ways, ltb-true, ltb-false}
-use Rattle.std.specs.List.{ContainsAt as Has, AllByRecursion as All}
+use Rattle.std.specs.List.{ContainsAt, AllByRecursion}
 use Rattle.host.specs.declared.line.Card.{Card}
 use Rattle.members.specs.declared.routes.Way.{Way}
 use Rattle.members.specs.Prefixes.{fits}
@@ -26,18 +26,18 @@ NotBeyond (Some b) w = b.prefix.count ≤ w.prefix.count
 
 -- what the walk comes to, from the best so far on
 record Ends (best : Option Way) (ws : List Way) (card : Card) (w : Way) : Type 0 where
-  from : (best ≡ Some w) ⊎ (Has ws w × (fits w.prefix card ≡ true))
-  most : All (λ v. fits v.prefix card ≡ true → v.prefix.count ≤ w.prefix.count) ws
+  from : (best ≡ Some w) ⊎ (ContainsAt ws w × (fits w.prefix card ≡ true))
+  most : AllByRecursion (λ v. fits v.prefix card ≡ true → v.prefix.count ≤ w.prefix.count) ws
   start : NotBeyond best w
 
 abbrev Ended : Option Way → List Way → Card → Option Way → Type 0
-Ended best ws card None = (best ≡ None) × All (λ v. fits v.prefix card ≡ false) ws
+Ended best ws card None = (best ≡ None) × AllByRecursion (λ v. fits v.prefix card ≡ false) ws
 Ended best ws card (Some w) = Ends best ws card w
 
-has_later : (w v : Way) (ws : List Way) → Has ws w → Has (v ∷ ws) w
+has_later : (w v : Way) (ws : List Way) → ContainsAt ws w → ContainsAt (v ∷ ws) w
 has_later w v ws (k, h, at) = (suc k, omega arith, at)
 
-has_first : (w : Way) (ws : List Way) → Has (w ∷ ws) w
+has_first : (w : Way) (ws : List Way) → ContainsAt (w ∷ ws) w
 has_first w ws = (0, omega arith, λ d. refl)
 
 no_way : (w : Way) → Some w ≡ None → ⊥
@@ -54,8 +54,8 @@ shorter_start : (best : Option Way) (w u : Way) → longer w best ≡ false → 
 shorter_start None w u e h = absurd (both_ways true e refl)
 shorter_start (Some b) w u e h = let l = ltb-false _ _ e in omega arith
 
-first_kept : (w u : Way) (ws : List Way) (card : Card) → fits w.prefix card ≡ true → w ≡ u → Has (w ∷ ws) u × (fits u.prefix card ≡ true)
-first_kept w u ws card f e = subst (λ v. Has (w ∷ ws) v × (fits v.prefix card ≡ true)) e (has_first w ws, f)
+first_kept : (w u : Way) (ws : List Way) (card : Card) → fits w.prefix card ≡ true → w ≡ u → ContainsAt (w ∷ ws) u × (fits u.prefix card ≡ true)
+first_kept w u ws card f e = subst (λ v. ContainsAt (w ∷ ws) v × (fits v.prefix card ≡ true)) e (has_first w ws, f)
 
 took : (best : Option Way) (w : Way) (ws : List Way) (card : Card) (r : Option Way) → better w best card ≡ true → Ended (Some w) ws card r → Ended best (w ∷ ws) card r
 took best w ws card None b (e, a) = absurd (no_way w e)
@@ -92,7 +92,7 @@ ended best (w ∷ ws) card =
     (λ b. subst (λ x. Ended best (w ∷ ws) card (longest x ws card)) (sym (cond-false _ _ _ b)) (went_by best w ws card _ b (ended best ws card)))
     (cases_Bool (better w best card))
 
-all_near : (ws : List Way) → near ws ≡ true → All (λ w. w.issuer < 16) ws
+all_near : (ws : List Way) → near ws ≡ true → AllByRecursion (λ w. w.issuer < 16) ws
 all_near [] e = tt
 all_near (w ∷ ws) e = let p = and_parts _ _ e in (ltb-true _ _ p.0, all_near ws p.1)
 

@@ -1,7 +1,7 @@
 -- Routes from prefixes to banks, and the one that a card takes.
 use Rattle.std.specs.Prelude.{◌≡◌, ℕ, ◌≤◌, Bool, true, false, cond, not, ◌&&◌, ◌||◌, List, [], ◌∷◌, map, length, take, Some, None, Option, nat_le, nat_lt}
 use Rattle.std.specs.Option.{unwrap_or}
-use Rattle.std.specs.List.{ContainsAt as Has, AllByRecursion as All}
+use Rattle.std.specs.List.{ContainsAt, AllByRecursion}
 use Rattle.host.specs.declared.line.Card.{Card}
 use Rattle.members.specs.declared.prefix.Prefix.{Prefix}
 use Rattle.members.specs.declared.routes.Route.{Route}
@@ -63,11 +63,11 @@ route_of ws card = issuer_of (longest None ws card)
 
 -- one of these ways fits a card, and no other that fits has a longer prefix
 pub record Takes (ws : List Way) (card : Card) (w : Way) : Type 0 where
-  pub kept : Has ws w
+  pub kept : ContainsAt ws w
   pub begins : fits w.prefix card ≡ true
-  pub most : All (λ v. fits v.prefix card ≡ true → v.prefix.count ≤ w.prefix.count) ws
+  pub most : AllByRecursion (λ v. fits v.prefix card ≡ true → v.prefix.count ≤ w.prefix.count) ws
 
 -- the issuer's place is that of the way that a card takes; none where no way fits
 abbrev pub Issued : List Way → Card → Option ℕ → Type 0
-Issued ws card None = All (λ v. fits v.prefix card ≡ false) ws
+Issued ws card None = AllByRecursion (λ v. fits v.prefix card ≡ false) ws
 Issued ws card (Some i) = (w : Way) × Takes ws card w × (i ≡ w.issuer)

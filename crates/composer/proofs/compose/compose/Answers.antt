@@ -1,5 +1,5 @@
 use Rattle.std.proofs.Common.{ℕ, ◌<◌, List, map, take, Ok, Err, Result, sym, ap, ◌∙◌}
-use Rattle.std.specs.List.{AllByRecursion as All}
+use Rattle.std.specs.List.{AllByRecursion}
 use Rattle.std.proofs.lemmas.Result.{err_from_is_err_and}
 use Rattle.elements.specs.declared.fault.MessageFault.{MessageFault}
 use Rattle.composer.specs.Composes.{Steps, items, numbers}
@@ -9,7 +9,7 @@ use Rattle.composer.proofs.Rounds.{read_again, yielded_again}
 use Rattle.composer.proofs.compose.compose.Goals as goal
 
 -- both laws follow from the steps
-reads : (out out' : List ℕ) (mti : ℕ) (is : List Item) (r : Result ℕ MessageFault) → All (λ m. m < 256) (map (λ i. i.number) is) → Steps (composed out mti is) r out' → ReadAgain mti is r out'
+reads : (out out' : List ℕ) (mti : ℕ) (is : List Item) (r : Result ℕ MessageFault) → AllByRecursion (λ m. m < 256) (map (λ i. i.number) is) → Steps (composed out mti is) r out' → ReadAgain mti is r out'
 reads out out' mti is (Ok n) small s = ap (λ o. content_of (take n o)) s.1 ∙ read_again out mti is n small (sym s.0)
 reads out out' mti is (Err f) small s = tt
 
