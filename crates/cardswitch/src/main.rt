@@ -6,6 +6,7 @@ mod run;
 
 use deck::Deck;
 use std::io::Read;
+use std::process::ExitCode;
 use std::{env, fs};
 
 fn deck_text(rt: &HostRuntime) -> anyhow::Result<Vec<u8>> {
@@ -25,10 +26,11 @@ fn run_deck(rt: &HostRuntime) -> anyhow::Result<()> {
     run::run(rt, &deck)
 }
 
-fn main(rt: HostRuntime) -> anyhow::Result<()> {
-    let ended = run_deck(&rt);
-    if let Err(fault) = &ended {
-        eprintln!(rt; "{fault}")?;
+// What went wrong is told once, on the error stream; where even that cannot be written, the status alone says it.
+fn main(rt: HostRuntime) -> ExitCode {
+    if let Err(fault) = run_deck(&rt) {
+        let _ = eprintln!(rt; "{fault}");
+        return ExitCode::FAILURE;
     }
-    ended
+    ExitCode::SUCCESS
 }
