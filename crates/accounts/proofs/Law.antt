@@ -15,7 +15,7 @@ use Rattle.host.specs.declared.line.Line.{Line}
 use Rattle.host.specs.declared.line.Line.TheVariants.{Absent, Posted, Leaving, Closed}
 use Rattle.host.specs.declared.line.Side.{Side}
 use Rattle.host.specs.declared.line.Side.TheVariants.{Debit, Credit}
-use Rattle.accounts.specs.Answers.{overdrawn, within_balance, book_answer, after_post, booked_back, after_reverse}
+use Rattle.accounts.specs.Answers.{overdrawn, within_balance, book_answer, accounts_after_post, booked_back, accounts_after_reverse}
 use Rattle.accounts.specs.Balances.{same_card, balance_of, booked, bounded, opposite, with_booking}
 use Rattle.accounts.specs.Histories.{Event, post, reverse, forget, line, turn, Step, Runs, Standing, unbooked, back, stands, by_post, by_reverse, by_forget, standing, post_adds, reverse_adds, adds, tally, plus, Balanced, NoLines}
 use Rattle.accounts.specs.Views.{Book}
@@ -121,17 +121,17 @@ post_fits (stands e) accounts free l after d must r f is p =
 unchanged : (s t : List (Option Account)) (c : Card) → t ≡ s → balance_of t c ≡ plus (balance_of s c) (pos 0)
 unchanged s t c e = ap (λ ps. balance_of ps c) e ∙ plus_none (balance_of s c)
 
-absent_books : (s t : List (Option Account)) (d : Details) (r : PostAnswer) (c : Card) → t ≡ after_post s Absent d r → balance_of t c ≡ plus (balance_of s c) (post_adds unbooked d r c)
+absent_books : (s t : List (Option Account)) (d : Details) (r : PostAnswer) (c : Card) → t ≡ accounts_after_post s Absent d r → balance_of t c ≡ plus (balance_of s c) (post_adds unbooked d r c)
 absent_books s t d posting.Posted c is = ap (λ ps. balance_of ps c) is ∙ booked_balance s d.card c d.side d.amount
 absent_books s t d (posting.Declined n) c is = unchanged s t c is
 absent_books s t d posting.Silence c is = unchanged s t c is
 absent_books s t d posting.Clash c is = unchanged s t c is
 
-post_books : (st : Standing) (s t : List (Option Account)) (l : Line) (d : Details) (r : PostAnswer) (c : Card) → Fits st l → t ≡ after_post s l d r → balance_of t c ≡ plus (balance_of s c) (post_adds st d r c)
-post_books unbooked s t l d r c f is = absent_books s t d r c (subst (λ x. t ≡ after_post s x d r) f is)
-post_books back s t l d r c f is = unchanged s t c (subst (λ x. t ≡ after_post s x d r) f is)
+post_books : (st : Standing) (s t : List (Option Account)) (l : Line) (d : Details) (r : PostAnswer) (c : Card) → Fits st l → t ≡ accounts_after_post s l d r → balance_of t c ≡ plus (balance_of s c) (post_adds st d r c)
+post_books unbooked s t l d r c f is = absent_books s t d r c (subst (λ x. t ≡ accounts_after_post s x d r) f is)
+post_books back s t l d r c f is = unchanged s t c (subst (λ x. t ≡ accounts_after_post s x d r) f is)
 post_books (stands e) s t l d r c f is =
-    unchanged s t c (⊎_elim (λ g. subst (λ x. t ≡ after_post s x d r) g is) (λ g. subst (λ x. t ≡ after_post s x d r) g is) f)
+    unchanged s t c (⊎_elim (λ g. subst (λ x. t ≡ accounts_after_post s x d r) g is) (λ g. subst (λ x. t ≡ accounts_after_post s x d r) g is) f)
 
 -- a reverse, by the line found
 reverse_fits : (st : Standing) (l after : Line) (r : ReverseAnswer) → Fits st l → after ≡ reversed l r → Fits (by_reverse r st) after
@@ -145,11 +145,11 @@ back_books : (s t : List (Option Account)) (e : Details) (r : ReverseAnswer) (c 
 back_books s t e reversing.Done c is = ap (λ ps. balance_of ps c) is ∙ booked_balance s e.card c (opposite e.side) e.amount
 back_books s t e reversing.Silence c is = unchanged s t c is
 
-reverse_books : (st : Standing) (s t : List (Option Account)) (l : Line) (r : ReverseAnswer) (c : Card) → Fits st l → t ≡ after_reverse s l r → balance_of t c ≡ plus (balance_of s c) (reverse_adds st r c)
-reverse_books unbooked s t l r c f is = unchanged s t c (subst (λ x. t ≡ after_reverse s x r) f is)
-reverse_books back s t l r c f is = unchanged s t c (subst (λ x. t ≡ after_reverse s x r) f is)
+reverse_books : (st : Standing) (s t : List (Option Account)) (l : Line) (r : ReverseAnswer) (c : Card) → Fits st l → t ≡ accounts_after_reverse s l r → balance_of t c ≡ plus (balance_of s c) (reverse_adds st r c)
+reverse_books unbooked s t l r c f is = unchanged s t c (subst (λ x. t ≡ accounts_after_reverse s x r) f is)
+reverse_books back s t l r c f is = unchanged s t c (subst (λ x. t ≡ accounts_after_reverse s x r) f is)
 reverse_books (stands e) s t l r c f is =
-    back_books s t e r c (⊎_elim (λ g. subst (λ x. t ≡ after_reverse s x r) g is) (λ g. subst (λ x. t ≡ after_reverse s x r) g is) f)
+    back_books s t e r c (⊎_elim (λ g. subst (λ x. t ≡ accounts_after_reverse s x r) g is) (λ g. subst (λ x. t ≡ accounts_after_reverse s x r) g is) f)
 
 forget_fits : (st : Standing) (l after : Line) (r : ForgetAnswer) → Fits st l → after ≡ forgotten r l → Fits (by_forget r st) after
 forget_fits st l after forgetting.Done f is = is

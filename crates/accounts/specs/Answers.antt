@@ -34,15 +34,15 @@ book_answer accounts free (Leaving e) d must = posting.Silence
 book_answer accounts free Closed d must = posting.Declined 21
 
 -- booked once: where a line becomes posted
-abbrev pub after_post : List (Option Account) → Line → Details → PostAnswer → List (Option Account)
-after_post accounts Absent d posting.Posted = with_booking accounts d.card d.side d.amount
-after_post accounts Absent d (posting.Declined c) = accounts
-after_post accounts Absent d posting.Silence = accounts
-after_post accounts Absent d posting.Clash = accounts
-after_post accounts (Posted e) d r = accounts
-after_post accounts (Adrift e) d r = accounts
-after_post accounts (Leaving e) d r = accounts
-after_post accounts Closed d r = accounts
+abbrev pub accounts_after_post : List (Option Account) → Line → Details → PostAnswer → List (Option Account)
+accounts_after_post accounts Absent d posting.Posted = with_booking accounts d.card d.side d.amount
+accounts_after_post accounts Absent d (posting.Declined c) = accounts
+accounts_after_post accounts Absent d posting.Silence = accounts
+accounts_after_post accounts Absent d posting.Clash = accounts
+accounts_after_post accounts (Posted e) d r = accounts
+accounts_after_post accounts (Adrift e) d r = accounts
+accounts_after_post accounts (Leaving e) d r = accounts
+accounts_after_post accounts Closed d r = accounts
 
 -- what was booked goes back, unless the balance would leave its bounds
 abbrev pub returned : List (Option Account) → Details → ReverseAnswer
@@ -61,9 +61,9 @@ booked_back accounts e reversing.Done = with_booking accounts e.card (opposite e
 booked_back accounts e reversing.Silence = accounts
 
 -- booked back once: where a posted or leaving line is closed
-abbrev pub after_reverse : List (Option Account) → Line → ReverseAnswer → List (Option Account)
-after_reverse accounts Absent r = accounts
-after_reverse accounts (Posted e) r = booked_back accounts e r
-after_reverse accounts (Adrift e) r = accounts
-after_reverse accounts (Leaving e) r = booked_back accounts e r
-after_reverse accounts Closed r = accounts
+abbrev pub accounts_after_reverse : List (Option Account) → Line → ReverseAnswer → List (Option Account)
+accounts_after_reverse accounts Absent r = accounts
+accounts_after_reverse accounts (Posted e) r = booked_back accounts e r
+accounts_after_reverse accounts (Adrift e) r = accounts
+accounts_after_reverse accounts (Leaving e) r = booked_back accounts e r
+accounts_after_reverse accounts Closed r = accounts

@@ -6,7 +6,7 @@ use Rattle.host.specs.declared.ask.ReverseAnswer.{ReverseAnswer}
 use Rattle.host.specs.declared.line.Details.{Details}
 use Rattle.lines.specs.Answers.{places_left}
 use Rattle.lines.specs.Rows.{shown, free}
-use Rattle.accounts.specs.Answers.{book_answer, book_reverse, after_post, after_reverse}
+use Rattle.accounts.specs.Answers.{book_answer, book_reverse, accounts_after_post, accounts_after_reverse}
 use Rattle.accounts.specs.declared.accounts.Account.{Account}
 use Rattle.accounts.specs.declared.book.BalanceBook.{BalanceBook}
 
@@ -30,10 +30,10 @@ Places s issuer number t = t.free ≡ places_left (s.host.lines issuer number) (
 -- which answer, and which booking
 pub record AnswersPost (s : Book) (issuer number : ℕ) (d : Details) (must : Bool) (r : PostAnswer) (t : Book) : Type 0 where
   pub answer : r ≡ book_answer s.accounts s.free (s.host.lines issuer number) d must
-  pub accounts : t.accounts ≡ after_post s.accounts (s.host.lines issuer number) d r
+  pub accounts : t.accounts ≡ accounts_after_post s.accounts (s.host.lines issuer number) d r
   pub places : Places s issuer number t
 
 pub record AnswersReverse (s : Book) (issuer number : ℕ) (r : ReverseAnswer) (t : Book) : Type 0 where
   pub answer : r ≡ book_reverse s.accounts s.free (s.host.lines issuer number)
-  pub accounts : t.accounts ≡ after_reverse s.accounts (s.host.lines issuer number) r
+  pub accounts : t.accounts ≡ accounts_after_reverse s.accounts (s.host.lines issuer number) r
   pub places : Places s issuer number t

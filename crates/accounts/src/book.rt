@@ -4,7 +4,7 @@ ghost use Rattle.host.specs.Meaning.{Posts, Reverses, Forgets, Turns};
 ghost use Rattle.host.specs.declared.line.Line.TheVariants.{Absent};
 ghost use Rattle.lines.specs.Logs.{unasked};
 ghost use Rattle.lines.specs.Rows.{free};
-ghost use Rattle.accounts.specs.Answers.{overdrawn, within_balance, book_answer, book_reverse, after_post, after_reverse};
+ghost use Rattle.accounts.specs.Answers.{overdrawn, within_balance, book_answer, book_reverse};
 ghost use Rattle.accounts.specs.Balances.{balance_of};
 ghost use Rattle.accounts.specs.Opening.{sound, placed};
 ghost use Rattle.accounts.specs.Views.{kept_by, view, Places, AnswersPost, AnswersReverse};

@@ -3,7 +3,7 @@ ghost use Rattle.std.specs.Prelude.{◌≡◌, true, false, ◌&&◌, if◌then�
 ghost use Rattle.host.specs.declared.ask.PostAnswer.TheVariants as posting;
 ghost use Rattle.host.specs.declared.ask.ReverseAnswer.TheVariants as reversing;
 ghost use Rattle.host.specs.declared.line.Line.TheVariants.{Absent};
-ghost use Rattle.accounts.specs.Answers.{after_post, after_reverse};
+ghost use Rattle.accounts.specs.Answers.{accounts_after_post, accounts_after_reverse};
 ghost use Rattle.accounts.specs.Balances.{balance_of, booked, bounded, stays, with_booking, opposite};
 ghost use Rattle.accounts.specs.Opening.{good, unknown, sound, placed};
 ghost use Rattle.accounts.specs.Found.{Found, Unknown, StaysBack};
@@ -151,7 +151,7 @@ impl Accounts {
     // A line that becomes posted is booked, once.
     pub fn post(&mut self, found: Line, details: &Details, answer: PostAnswer)
         requires { found ≡ Absent → answer ≡ posting.Posted → stays (balance_of self.old.places details.now.card) details.now.side details.now.amount ≡ true }
-        ensures { self.new.places ≡ after_post self.old.places found details.now answer }
+        ensures { self.new.places ≡ accounts_after_post self.old.places found details.now answer }
     {
         if let (Line::Absent, PostAnswer::Posted) = (found, answer) {
             self.book(&details.card, details.side, details.amount);
@@ -161,7 +161,7 @@ impl Accounts {
     // A posted or leaving line that is closed is booked back, once.
     pub fn reverse(&mut self, found: Line, answer: ReverseAnswer)
         requires { answer ≡ reversing.Done → StaysBack self.old.places found }
-        ensures { self.new.places ≡ after_reverse self.old.places found answer }
+        ensures { self.new.places ≡ accounts_after_reverse self.old.places found answer }
     {
         if let (Line::Posted(booked) | Line::Leaving(booked), ReverseAnswer::Done) = (
             found, answer,

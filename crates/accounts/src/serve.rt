@@ -1,5 +1,5 @@
 // Calls made one after the other, and what they come to.
-ghost use Rattle.std.specs.Prelude.{◌≡◌, map, Some};
+ghost use Rattle.std.specs.Prelude.{◌≡◌, map};
 ghost use Rattle.accounts.specs.Histories.{Ran, Balanced, NoLines};
 ghost use Rattle.accounts.specs.Made.{Made, called};
 ghost use Rattle.accounts.specs.Views.{view};

@@ -1,5 +1,5 @@
 // The elements that a message is to have, told one by one.
-ghost use Rattle.std.specs.Prelude.{◌≡◌, ℕ, ◌<◌, ◌≤◌, ◌||◌, List, [], ◌∷◌, ◌++◌};
+ghost use Rattle.std.specs.Prelude.{◌≡◌, ℕ, ◌≤◌, List, [], ◌∷◌, ◌++◌};
 ghost use Rattle.composer.specs.Announced.{Announced, lower};
 ghost use Rattle.iso8583.specs.Bitmap.{marked};
 ghost use Rattle.elements.specs.Table.{table, known};

@@ -1,8 +1,8 @@
 // A host without accounts: it books every credit, and every debit up to a limit.
-ghost use Rattle.std.specs.Prelude.{◌≡◌, ℕ, Bool, true, false, None};
-ghost use Rattle.host.specs.Meaning.{Meaning, Posts, Reverses, Forgets, Turns};
+ghost use Rattle.std.specs.Prelude.{◌≡◌, ℕ, None};
+ghost use Rattle.host.specs.Meaning.{Posts, Reverses, Forgets, Turns};
 ghost use Rattle.host.specs.declared.line.Line.TheVariants.{Absent};
-ghost use Rattle.hosts.specs.Answers.{same, repeated, within_limit, limit_answer, reverse_answer, free_after_post, free_after_reverse, free_after_forget};
+ghost use Rattle.hosts.specs.Answers.{repeated, within_limit, limit_answer, reverse_answer, free_after_post, free_after_reverse, free_after_forget};
 ghost use Rattle.hosts.specs.Rows.{free, shown};
 ghost use Rattle.hosts.specs.Views.{limited};
 

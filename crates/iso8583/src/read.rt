@@ -1,5 +1,5 @@
 // A message is read from the left: type, bitmaps, then each element that is marked.
-ghost use Rattle.std.specs.Prelude.{◌≡◌, ◌+◌, ◌*◌, ◌^◌, ◌<◌, ◌≤◌, true, false, length, MatchOption, OnOk, slice_index};
+ghost use Rattle.std.specs.Prelude.{◌≡◌, ◌+◌, ◌^◌, ◌<◌, ◌≤◌, true, false, length, MatchOption, OnOk, slice_index};
 ghost use Rattle.std.specs.Char.{digit_value};
 ghost use Rattle.iso8583.specs.Reading.{mti_of, half, bits_of, body, wrong, characters, two_digits, sized};
 ghost use Rattle.elements.specs.Table.{decimal, hexadecimal, fits};

@@ -1,6 +1,6 @@
 // Two hosts side by side.
 ghost use Rattle.std.specs.Prelude.{◌≡◌, ◌<◌, ◌≤◌, None};
-ghost use Rattle.host.specs.Meaning.{Meaning, Posts, Reverses, Forgets, Turns};
+ghost use Rattle.host.specs.Meaning.{Posts, Reverses, Forgets, Turns};
 ghost use Rattle.layers.specs.Views.{paired};
 
 use host::Host;

@@ -1,6 +1,6 @@
 // A host that is asked again where it was silent.
 ghost use Rattle.std.specs.Prelude.{◌≡◌, min, None};
-ghost use Rattle.host.specs.Meaning.{Meaning, Posts, Reverses, Forgets, Turns};
+ghost use Rattle.host.specs.Meaning.{Posts, Reverses, Forgets, Turns};
 ghost use Rattle.layers.specs.Tries.{Tried, Undone, softened};
 ghost use Rattle.layers.specs.Views.{retried};
 

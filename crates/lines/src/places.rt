@@ -1,4 +1,4 @@
-ghost use Rattle.std.specs.Prelude.{◌≡◌, ℕ, ◌<◌, true, false, ◌||◌, length, Some, None, MatchOption, ◌≢◌, nat_lt, slice_index_or};
+ghost use Rattle.std.specs.Prelude.{◌≡◌, ℕ, ◌<◌, true, false, length, None, MatchOption, ◌≢◌, nat_lt, slice_index_or};
 ghost use Rattle.host.specs.Meaning.{forgotten, forgetting_answer};
 ghost use Rattle.host.specs.declared.line.Line.TheVariants.{Absent};
 ghost use Rattle.lines.specs.Answers.{room_for};

@@ -1,4 +1,4 @@
-ghost use Rattle.std.specs.Prelude.{◌≡◌, ℕ, ◌<◌, ◌≤◌, true, false, length, take, IfSome};
+ghost use Rattle.std.specs.Prelude.{◌≡◌, ◌<◌, ◌≤◌, length, take, IfSome};
 ghost use Rattle.members.specs.Codes.{place_in, code_at, proper_code, sound_banks};
 ghost use Rattle.members.specs.Each.{each};
 ghost use Rattle.members.specs.Members.{codes_of, Opened};

@@ -1,4 +1,4 @@
-ghost use Rattle.std.specs.Prelude.{◌≡◌, ℕ, ◌<◌, ◌≤◌, true, length, IfSome, None};
+ghost use Rattle.std.specs.Prelude.{◌≡◌, ◌<◌, ◌≤◌, true, length, IfSome, None};
 ghost use Rattle.members.specs.Codes.{known};
 ghost use Rattle.members.specs.Each.{each};
 ghost use Rattle.members.specs.Members.{codes_of, routes_of, Routed};

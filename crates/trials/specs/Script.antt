@@ -75,6 +75,6 @@ trial_reverse (word.Decline c) free l = limit_reverse free l
 abbrev pub holding : Cue → ℕ → ℕ → Option Key
 holding c issuer number = cond c.holds (Some (record { issuer = issuer; number = number })) None
 
-abbrev pub held_by : Option Key → ℕ → ℕ → Bool
-held_by None issuer number = false
-held_by (Some k) issuer number = k.issuer == issuer && k.number == number
+abbrev pub is_held : Option Key → ℕ → ℕ → Bool
+is_held None issuer number = false
+is_held (Some k) issuer number = k.issuer == issuer && k.number == number

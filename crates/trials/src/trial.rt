@@ -1,8 +1,8 @@
 // A host for trials: what the meaning of a host leaves open is told by a script.
-ghost use Rattle.std.specs.Prelude.{◌≡◌, ℕ, true, false, drop, None};
+ghost use Rattle.std.specs.Prelude.{◌≡◌, ℕ, drop, None};
 ghost use Rattle.host.specs.Meaning.{Posts, Reverses, Forgets, Turns};
 ghost use Rattle.host.specs.declared.line.Line.TheVariants.{Absent};
-ghost use Rattle.trials.specs.Script.{cues_left, first_cue, trial_answer, trial_reverse, holding, held_by};
+ghost use Rattle.trials.specs.Script.{cues_left, first_cue, trial_answer, trial_reverse, holding, is_held};
 ghost use Rattle.trials.specs.Views.{tried};
 ghost use Rattle.lines.specs.Answers.{places_left};
 ghost use Rattle.lines.specs.Logs.{unasked};
@@ -52,7 +52,7 @@ impl TrialHost {
 
     // Whether a pair is held.
     fn holds(&self, issuer: u8, number: u64) -> bool
-        ensures { result ≡ held_by self.now.held issuer number }
+        ensures { result ≡ is_held self.now.held issuer number }
     {
         match self.held {
             Some(key) => key.issuer == issuer && key.number == number,

@@ -1,5 +1,5 @@
 // Entries that come into the books, and what becomes of them.
-ghost use Rattle.std.specs.Prelude.{◌≡◌, ℕ, ◌<◌, true, false, IfSome, Some, None, MatchOption, slice_index_or};
+ghost use Rattle.std.specs.Prelude.{◌≡◌, ℕ, true, false, IfSome, Some, None, MatchOption, slice_index_or};
 ghost use Rattle.books.specs.Ledgers.{ledger, fresh, counted, reversed, taken_in, taken_back, forwarded};
 ghost use Rattle.books.specs.Sizes.{small};
 ghost use Rattle.journal.specs.Entries.{undone, in_state};
