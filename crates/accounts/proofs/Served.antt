@@ -1,12 +1,34 @@
 -- Calls made one after the other leave a history.
-use Rattle.std.proofs.Common.{◌≡◌, ℕ, zero, suc, ◌+◌, ◌<◌, ◌≤◌, List, [], ◌∷◌, ◌++◌, map, length, get_or, take, set, Some, Option, sym, refl, ap, ◌∙◌}
-use Rattle.std.proofs.lemmas.List.{take_more_set, take_all}
-use Rattle.accounts.specs.Histories.{Ran}
+use Rattle.std.proofs.Common.{◌≡◌, ℕ, zero, suc, ◌+◌, ◌<◌, Bool, List, [], ◌∷◌, ◌++◌, map, length, get_or, take, set, Some, Option, sym, refl, ap, ◌∙◌}
+use Rattle.std.proofs.lemmas.List.{take_more_set}
+use Rattle.host.specs.Meaning.{Posts, Reverses, Forgets}
+use Rattle.host.specs.declared.ask.ForgetAnswer.{ForgetAnswer}
+use Rattle.host.specs.declared.ask.PostAnswer.{PostAnswer}
+use Rattle.host.specs.declared.ask.ReverseAnswer.{ReverseAnswer}
+use Rattle.host.specs.declared.line.Details.{Details}
+use Rattle.host.specs.declared.line.Key.{Key}
+use Rattle.host.specs.declared.line.Line.{Line}
+use Rattle.accounts.specs.Histories.{Ran, post, reverse, forget, line}
 use Rattle.accounts.specs.Made.{Made, called}
-use Rattle.accounts.specs.Views.{Book}
+use Rattle.accounts.specs.Views.{Book, Places, AnswersPost, AnswersReverse}
 use Rattle.accounts.specs.declared.exchange.Answer.{Answer}
+use Rattle.accounts.specs.declared.exchange.Answer.TheVariants as answer
 use Rattle.accounts.specs.declared.exchange.Call.{Call}
+use Rattle.accounts.specs.declared.exchange.Call.TheVariants as call
 use Rattle.accounts.specs.declared.exchange.Exchange.{Exchange}
+
+module _ (s t : Book) (key : Key) where
+  pub post_made : (d : Details) (must : Bool) (r : PostAnswer) → Posts s.host key d must r t.host → AnswersPost s key d must r t → Made s (call.Post key d must) (answer.Post r) t
+  post_made d must r p x = record { event = post key d must r; this = refl; step = (p, x) }
+
+  pub reverse_made : (r : ReverseAnswer) → Reverses s.host key r t.host → AnswersReverse s key r t → Made s (call.Reverse key) (answer.Reverse r) t
+  reverse_made r p x = record { event = reverse key r; this = refl; step = (p, x) }
+
+  pub forget_made : (r : ForgetAnswer) → Forgets s.host key r t.host → (t.accounts ≡ s.accounts) × Places s key t → Made s (call.Forget key) (answer.Forget r) t
+  forget_made r p x = record { event = forget key r; this = refl; step = (p, x) }
+
+  pub line_made : (l : Line) → l ≡ s.host.lines key.issuer key.number → t ≡ s → Made s (call.Line key) (answer.Line l) t
+  line_made l p x = record { event = line key l; this = refl; step = (p, x) }
 
 abbrev made : Call → Answer → Exchange
 made c r = record { call = c; answer = Some r }
@@ -22,12 +44,9 @@ ran_more s m t xs i c r h ran did =
       runs = (m, ran.runs, did.step);
     }
 
-pub ran_all : (s t : Book) (xs : List Exchange) (i : ℕ) → length xs ≤ i → Ran s (take i xs) t → Ran s xs t
-ran_all s t xs i h ran = record { history = ran.history; these = ran.these ∙ take_all i xs h; runs = ran.runs }
-
 -- a call keeps its place
-pub called-set : (xs : List Exchange) (i : ℕ) (d : Exchange) (o : Option Answer) → map called (set xs i (record { call = (get_or xs i d).call; answer = o })) ≡ map called xs
-called-set [] zero d o = refl
-called-set [] (suc i) d o = refl
-called-set (x ∷ xs) zero d o = refl
-called-set (x ∷ xs) (suc i) d o = ap (λ cs. x.call ∷ cs) (called-set xs i d o)
+pub same_calls : (xs : List Exchange) (i : ℕ) (d : Exchange) (o : Option Answer) → map called (set xs i (record { call = (get_or xs i d).call; answer = o })) ≡ map called xs
+same_calls [] zero d o = refl
+same_calls [] (suc i) d o = refl
+same_calls (x ∷ xs) zero d o = refl
+same_calls (x ∷ xs) (suc i) d o = ap (λ cs. x.call ∷ cs) (same_calls xs i d o)

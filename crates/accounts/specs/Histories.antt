@@ -9,28 +9,29 @@ use Rattle.host.specs.declared.ask.ReverseAnswer.{ReverseAnswer}
 use Rattle.host.specs.declared.ask.ReverseAnswer.TheVariants as reversing
 use Rattle.host.specs.declared.line.Card.{Card}
 use Rattle.host.specs.declared.line.Details.{Details}
+use Rattle.host.specs.declared.line.Key.{Key}
 use Rattle.host.specs.declared.line.Line.{Line}
 use Rattle.host.specs.declared.line.Line.TheVariants.{Absent}
-use Rattle.accounts.specs.Balances.{same_card, balance_of, booked, opposite}
+use Rattle.accounts.specs.Balances.{same_card, balance_of, booked, undoing}
 use Rattle.accounts.specs.Views.{Book, Places, AnswersPost, AnswersReverse}
 use Rattle.accounts.specs.declared.exchange.Answer.TheVariants as answer
 use Rattle.accounts.specs.declared.exchange.Call.TheVariants as call
 use Rattle.accounts.specs.declared.exchange.Exchange.{Exchange}
 
--- a call with its answer: issuer and number, then what else was said
+-- a call with its answer: the key, then what else was said
 pub data Event : Type 0 where
-  post : ℕ → ℕ → Details → Bool → PostAnswer → Event
-  reverse : ℕ → ℕ → ReverseAnswer → Event
-  forget : ℕ → ℕ → ForgetAnswer → Event
-  line : ℕ → ℕ → Line → Event
+  post : Key → Details → Bool → PostAnswer → Event
+  reverse : Key → ReverseAnswer → Event
+  forget : Key → ForgetAnswer → Event
+  line : Key → Line → Event
   turn : Event
 
 -- each call does what its contract says
 abbrev pub Step : Book → Event → Book → Type 0
-Step s (post i k d must r) t = Posts s.host i k d must r t.host × AnswersPost s i k d must r t
-Step s (reverse i k r) t = Reverses s.host i k r t.host × AnswersReverse s i k r t
-Step s (forget i k r) t = Forgets s.host i k r t.host × ((t.accounts ≡ s.accounts) × Places s i k t)
-Step s (line i k l) t = (l ≡ s.host.lines i k) × (t ≡ s)
+Step s (post key d must r) t = Posts s.host key d must r t.host × AnswersPost s key d must r t
+Step s (reverse key r) t = Reverses s.host key r t.host × AnswersReverse s key r t
+Step s (forget key r) t = Forgets s.host key r t.host × ((t.accounts ≡ s.accounts) × Places s key t)
+Step s (line key l) t = (l ≡ s.host.lines key.issuer key.number) × (t ≡ s)
 Step s turn t = Turns s.host t.host × ((t.accounts ≡ s.accounts) × (t.free ≡ s.free))
 
 -- a history, the latest call first, leads from one book to another
@@ -40,10 +41,10 @@ Runs (e ∷ h) s t = (m : Book) × Runs h s m × Step m e t
 
 -- what the caller said and was told
 abbrev pub exchange_of : Event → Exchange
-exchange_of (post i k d must r) = record { call = call.Post i k d must; answer = Some (answer.Post r) }
-exchange_of (reverse i k r) = record { call = call.Reverse i k; answer = Some (answer.Reverse r) }
-exchange_of (forget i k r) = record { call = call.Forget i k; answer = Some (answer.Forget r) }
-exchange_of (line i k l) = record { call = call.Line i k; answer = Some (answer.Line l) }
+exchange_of (post key d must r) = record { call = call.Post key d must; answer = Some (answer.Post r) }
+exchange_of (reverse key r) = record { call = call.Reverse key; answer = Some (answer.Reverse r) }
+exchange_of (forget key r) = record { call = call.Forget key; answer = Some (answer.Forget r) }
+exchange_of (line key l) = record { call = call.Line key; answer = Some (answer.Line l) }
 exchange_of turn = record { call = call.Turn; answer = Some answer.Turn }
 
 -- in the order of time
@@ -80,10 +81,10 @@ by_forget forgetting.Done st = unbooked
 by_forget forgetting.NotNow st = st
 
 abbrev pub by_event : Event → ℕ → ℕ → Standing → Standing
-by_event (post i k d must r) a b st = cond (i == a && k == b) (by_post d r st) st
-by_event (reverse i k r) a b st = cond (i == a && k == b) (by_reverse r st) st
-by_event (forget i k r) a b st = cond (i == a && k == b) (by_forget r st) st
-by_event (line i k l) a b st = st
+by_event (post key d must r) a b st = cond (key.issuer == a && key.number == b) (by_post d r st) st
+by_event (reverse key r) a b st = cond (key.issuer == a && key.number == b) (by_reverse r st) st
+by_event (forget key r) a b st = cond (key.issuer == a && key.number == b) (by_forget r st) st
+by_event (line key l) a b st = st
 by_event turn a b st = st
 
 abbrev pub standing : List Event → ℕ → ℕ → Standing
@@ -95,7 +96,7 @@ abbrev pub booking : Details → Card → ℤ
 booking d c = cond (same_card d.card c) (booked d.side d.amount (pos 0)) (pos 0)
 
 abbrev pub booking_back : Details → Card → ℤ
-booking_back d c = cond (same_card d.card c) (booked (opposite d.side) d.amount (pos 0)) (pos 0)
+booking_back d c = booking (undoing d) c
 
 -- a post that is answered posted books, unless it is booked or was booked back
 abbrev pub post_adds : Standing → Details → PostAnswer → Card → ℤ
@@ -114,10 +115,10 @@ reverse_adds (stands e) reversing.Done c = booking_back e c
 reverse_adds (stands e) reversing.Silence c = pos 0
 
 abbrev pub adds : List Event → Event → Card → ℤ
-adds h (post i k d must r) c = post_adds (standing h i k) d r c
-adds h (reverse i k r) c = reverse_adds (standing h i k) r c
-adds h (forget i k r) c = pos 0
-adds h (line i k l) c = pos 0
+adds h (post key d must r) c = post_adds (standing h key.issuer key.number) d r c
+adds h (reverse key r) c = reverse_adds (standing h key.issuer key.number) r c
+adds h (forget key r) c = pos 0
+adds h (line key l) c = pos 0
 adds h turn c = pos 0
 
 -- all bookings and bookings back of a history

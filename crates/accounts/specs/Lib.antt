@@ -1,6 +1,5 @@
 pub mod Answers
 pub mod Balances
-pub mod Found
 pub mod Histories
 pub mod Made
 pub mod Opening

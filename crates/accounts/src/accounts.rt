@@ -1,20 +1,37 @@
 // Accounts: a balance for each card.
-ghost use Rattle.std.specs.Prelude.{◌≡◌, length};
+ghost use Rattle.std.specs.Prelude.{◌≡◌, false};
+ghost use Rattle.accounts.specs.Opening.{good};
 
+use arrayvec::ArrayVec;
 use host::line::Card;
 
 // The most accounts of a book.
 pub const ACCOUNTS: usize = 256;
 
 // What a card has. An account is found by its card alone, digit by digit.
-#[derive(Clone, Copy)]
+#[derive(Clone, Copy, PartialEq, Eq, Debug)]
 pub struct Account {
     pub card: Card,
     pub balance: i64,
 }
 
-#[derive(Clone, Copy)]
+// What lies at a place that has no account: no card has no digits, so none could be opened like that.
+impl Default for Account {
+    fn default() -> Account
+        ensures { good result ≡ false }
+    {
+        Account {
+            card: Card {
+                digits: 0,
+                count: 0,
+            },
+            balance: 0,
+        }
+    }
+}
+
+// At most that many accounts, in the order in which they were opened.
+#[derive(Clone, Drop)]
 pub struct Accounts {
-    pub(crate) places: [Option<Account>; ACCOUNTS],
-    ghost full: { length places ≡ 256 },
+    pub(crate) all: ArrayVec<Account, ACCOUNTS>,
 }

@@ -2,20 +2,20 @@
 ghost use Rattle.std.specs.Prelude.{◌≡◌, ℕ, true, false, MatchResult};
 ghost use Rattle.host.specs.Meaning.{Posts, Reverses, Forgets, Turns};
 ghost use Rattle.host.specs.declared.line.Line.TheVariants.{Absent};
-ghost use Rattle.lines.specs.Logs.{unasked};
+ghost use Rattle.host.specs.Logs.{unasked};
 ghost use Rattle.lines.specs.Rows.{free};
 ghost use Rattle.accounts.specs.Answers.{overdrawn, within_balance, book_answer, book_reverse};
 ghost use Rattle.accounts.specs.Balances.{balance_of};
-ghost use Rattle.accounts.specs.Opening.{sound, placed};
+ghost use Rattle.accounts.specs.Opening.{sound};
 ghost use Rattle.accounts.specs.Views.{kept_by, view, Places, AnswersPost, AnswersReverse};
 
 use crate::accounts::{Account, Accounts};
-use crate::ledger::{BadAccounts, opposite};
-use host::Host;
-use host::ask::{Ask, ForgetAnswer, PostAnswer, ReverseAnswer};
-use host::line::{Card, Details, Line, Side};
+use crate::ledger::{BadAccounts, undoing};
+use host::ask::{ForgetAnswer, PostAnswer, ReverseAnswer};
+use host::line::{Card, Details, Key, Line, Side};
+use host::log::Log;
+use host::{Host, code};
 use lines::change::{after_post, after_reverse, repeat};
-use lines::log::Log;
 use lines::table::Lines;
 
 // How many lines it keeps.
@@ -33,7 +33,7 @@ fn overdraws(balance: i64, details: &Details, must_stand: bool) -> bool
     ensures { result ≡ overdrawn balance details.now must_stand }
 {
     match details.side {
-        Side::Debit => !must_stand && (balance as i128) < details.amount as i128,
+        Side::Debit => !must_stand && i128::from(balance) < i128::from(details.amount),
         Side::Credit => false,
     }
 }
@@ -41,7 +41,7 @@ fn overdraws(balance: i64, details: &Details, must_stand: bool) -> bool
 impl BalanceBook {
     // A new book on these accounts: no line, no ask.
     pub fn open(accounts: &[Account]) -> Result<BalanceBook, BadAccounts>
-        ensures { MatchResult result (λ b. (sound accounts.now ≡ true) × ((view b).accounts ≡ placed accounts.now) × ((view b).free ≡ 1024) × (b.log ≡ unasked) × ((issuer number : ℕ) → (view b).host.lines issuer number ≡ Absent)) (λ _. sound accounts.now ≡ false) }
+        ensures { MatchResult result (λ b. (sound accounts.now ≡ true) × ((view b).accounts ≡ accounts.now) × ((view b).free ≡ 1024) × (b.log ≡ unasked) × ((issuer number : ℕ) → (view b).host.lines issuer number ≡ Absent)) (λ _. sound accounts.now ≡ false) }
     {
         let accounts = Accounts::open(accounts)?;
         Ok(BalanceBook {
@@ -58,24 +58,21 @@ impl BalanceBook {
         self.accounts.balance(card)
     }
 
-    // What is answered where no line is found.
+    // What is answered where no line is found. The number of a decline is the response code of the message that tells it.
     fn admit(&self, details: &Details, must_stand: bool) -> PostAnswer
         ensures { result ≡ within_balance (balance_of (view self.now).accounts details.now.card) (view self.now).free details.now must_stand }
     {
         let Some(balance) = self.accounts.balance(&details.card) else {
-            return PostAnswer::Declined(14);
+            return PostAnswer::Declined(code::INVALID_CARD);
         };
         if !self.lines.has_room() {
-            return PostAnswer::Declined(96);
+            return PostAnswer::Declined(code::NO_ROOM);
         }
-        if !self
-            .accounts
-            .stays(&details.card, details.side, details.amount)
-        {
-            return PostAnswer::Declined(5);
+        if !self.accounts.stays(details) {
+            return PostAnswer::Declined(code::DO_NOT_HONOR);
         }
         if overdraws(balance, details, must_stand) {
-            return PostAnswer::Declined(51);
+            return PostAnswer::Declined(code::NOT_SUFFICIENT_FUNDS);
         }
         PostAnswer::Posted
     }
@@ -89,7 +86,7 @@ impl BalanceBook {
             Line::Adrift(asked) if asked == *details => PostAnswer::Silence,
             Line::Adrift(_) => PostAnswer::Clash,
             Line::Leaving(_) => PostAnswer::Silence,
-            Line::Closed => PostAnswer::Declined(21),
+            Line::Closed => PostAnswer::Declined(code::NO_ACTION_TAKEN),
         }
     }
 
@@ -98,18 +95,14 @@ impl BalanceBook {
         ensures { result ≡ book_reverse (view self.now).accounts (view self.now).free found }
     {
         match found {
-            Line::Absent if !self.lines.has_room() => ReverseAnswer::Silence,
             Line::Posted(booked) | Line::Leaving(booked) => {
-                if self
-                    .accounts
-                    .stays(&booked.card, opposite(booked.side), booked.amount)
-                {
+                if self.accounts.stays(&undoing(booked)) {
                     ReverseAnswer::Done
                 } else {
                     ReverseAnswer::Silence
                 }
             }
-            _ => ReverseAnswer::Done,
+            _ => self.lines.reverse_outcome(found),
         }
     }
 }
@@ -117,51 +110,40 @@ impl BalanceBook {
 impl Host for BalanceBook {
     ghost meaning = { kept_by };
 
-    fn post(&mut self, issuer: u8, number: u64, details: Details, must_stand: bool) -> PostAnswer
-        ensures kept { Posts (kept_by self.old) issuer number details must_stand result (kept_by self.new) }
-        ensures exact { AnswersPost (view self.old) issuer number details must_stand result (view self.new) }
+    fn post(&mut self, key: Key, details: Details, must_stand: bool) -> PostAnswer
+        ensures kept { Posts (kept_by self.old) key details must_stand result (kept_by self.new) }
+        ensures exact { AnswersPost (view self.old) key details must_stand result (view self.new) }
     {
-        let found = self.lines.get(issuer, number);
+        let found = self.lines.get(key);
         let answer = self.answer(found, &details, must_stand);
         self.accounts.post(found, &details, answer);
-        self.lines
-            .put(issuer, number, after_post(found, details, answer));
-        self.log.ask(Ask::Post {
-            issuer,
-            number,
-            details,
-            must_stand,
-            answer,
-        });
+        self.lines.put(key, after_post(found, details, answer));
+        self.log.posted(key, details, must_stand, answer);
         answer
     }
 
-    fn reverse(&mut self, issuer: u8, number: u64) -> ReverseAnswer
-        ensures kept { Reverses (kept_by self.old) issuer number result (kept_by self.new) }
-        ensures exact { AnswersReverse (view self.old) issuer number result (view self.new) }
+    fn reverse(&mut self, key: Key) -> ReverseAnswer
+        ensures kept { Reverses (kept_by self.old) key result (kept_by self.new) }
+        ensures exact { AnswersReverse (view self.old) key result (view self.new) }
     {
-        let found = self.lines.get(issuer, number);
+        let found = self.lines.get(key);
         let answer = self.reverse_answer(found);
         self.accounts.reverse(found, answer);
-        self.lines.put(issuer, number, after_reverse(found, answer));
-        self.log.ask(Ask::Reverse {
-            issuer,
-            number,
-            answer,
-        });
+        self.lines.put(key, after_reverse(found, answer));
+        self.log.reversed(key, answer);
         answer
     }
 
     // A balance stays as it is.
-    fn forget(&mut self, issuer: u8, number: u64) -> ForgetAnswer
-        ensures kept { Forgets (kept_by self.old) issuer number result (kept_by self.new) }
-        ensures exact { ((view self.new).accounts ≡ (view self.old).accounts) × Places (view self.old) issuer number (view self.new) }
+    fn forget(&mut self, key: Key) -> ForgetAnswer
+        ensures kept { Forgets (kept_by self.old) key result (kept_by self.new) }
+        ensures exact { ((view self.new).accounts ≡ (view self.old).accounts) × Places (view self.old) key (view self.new) }
     {
-        self.lines.forget(issuer, number, false)
+        self.lines.forget(key, false)
     }
 
-    fn line(&self, issuer: u8, number: u64) -> Line {
-        self.lines.get(issuer, number)
+    fn line(&self, key: Key) -> Line {
+        self.lines.get(key)
     }
 
     fn turn(&mut self)

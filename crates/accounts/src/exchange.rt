@@ -1,26 +1,22 @@
 // Calls of a host and their answers, as values.
 use host::ask::{ForgetAnswer, PostAnswer, ReverseAnswer};
-use host::line::{Details, Line};
+use host::line::{Details, Key, Line};
 
 #[derive(Clone, Copy)]
 pub enum Call {
     Post {
-        issuer: u8,
-        number: u64,
+        key: Key,
         details: Details,
         must_stand: bool,
     },
     Reverse {
-        issuer: u8,
-        number: u64,
+        key: Key,
     },
     Forget {
-        issuer: u8,
-        number: u64,
+        key: Key,
     },
     Line {
-        issuer: u8,
-        number: u64,
+        key: Key,
     },
     Turn,
 }

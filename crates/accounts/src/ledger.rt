@@ -1,14 +1,14 @@
 // Opening accounts, looking them up, and booking.
-ghost use Rattle.std.specs.Prelude.{◌≡◌, true, false, ◌&&◌, if◌then◌else◌, Some, None, MatchOption, MatchResult};
+ghost use Rattle.std.specs.Prelude.{◌≡◌, true, false, ◌&&◌, if◌then◌else◌, position, Some, None, MatchOption, MatchResult};
 ghost use Rattle.host.specs.declared.ask.PostAnswer.TheVariants as posting;
 ghost use Rattle.host.specs.declared.ask.ReverseAnswer.TheVariants as reversing;
 ghost use Rattle.host.specs.declared.line.Line.TheVariants.{Absent};
-ghost use Rattle.accounts.specs.Answers.{accounts_after_post, accounts_after_reverse};
-ghost use Rattle.accounts.specs.Balances.{balance_of, booked, bounded, stays, with_booking, opposite};
-ghost use Rattle.accounts.specs.Opening.{good, unknown, sound, placed};
-ghost use Rattle.accounts.specs.Found.{Found, Unknown, StaysBack};
+ghost use Rattle.accounts.specs.Answers.{accounts_after_post, accounts_after_reverse, StaysBack};
+ghost use Rattle.accounts.specs.Balances.{balance_of, same_card, booked, booked_on, bounded, stays, with_booking, opposite, undoing};
+ghost use Rattle.accounts.specs.Opening.{good, listed, single, sound};
 
 use crate::accounts::{ACCOUNTS, Account, Accounts};
+use arrayvec::ArrayVec;
 use host::ask::{PostAnswer, ReverseAnswer};
 use host::line::{Card, Details, Line, Side};
 
@@ -22,50 +22,47 @@ pub fn opposite(side: Side) -> Side
     }
 }
 
+// What takes a booking back: it goes the other way.
+pub fn undoing(details: Details) -> Details
+    ensures { result ≡ undoing details }
+{
+    Details {
+        side: opposite(details.side),
+        ..details
+    }
+}
+
 // No balance leaves this, up or down.
-const BOUND: i128 = 100_000_000_000_000_000;
+const BOUND: i64 = 100_000_000_000_000_000;
 
 // The most that an account is opened with.
 const MOST: i64 = 1_000_000_000_000_000;
 
-// More than 256 accounts, a card not of 1 to 19 digits, a card twice, or a balance outside 0 to 10^15.
-#[derive(Clone, Copy, Debug)]
+// More than 256 accounts, a card not of 1 to 19 digits, a card twice, or a balance outside 0 to 10^15. One error for all: a book is
+// opened or it is not, and whoever gives the accounts can test them.
+#[derive(Clone, Copy, PartialEq, Eq, Debug)]
 pub struct BadAccounts;
 
-// What a booking makes of a balance, in bounds or not.
-fn exact(balance: i64, side: Side, amount: u64) -> i128
-    ensures { result ≡ booked side amount balance }
-{
-    match side {
-        Side::Debit => balance as i128 - amount as i128,
-        Side::Credit => balance as i128 + amount as i128,
-    }
-}
-
 // What a booking makes of a balance; none where it would leave its bounds.
-fn after_booking(balance: i64, side: Side, amount: u64) -> Option<i64>
-    ensures { result ≡ (if bounded (booked side amount balance) then Some (booked side amount balance) else None) }
+fn after_booking(balance: i64, details: &Details) -> Option<i64>
+    ensures { result ≡ (if bounded (booked details.now.side details.now.amount balance) then Some (booked details.now.side details.now.amount balance) else None) }
 {
-    let after = exact(balance, side, amount);
-    if -BOUND <= after && after <= BOUND {
-        Some(after as i64)
-    } else {
-        None
-    }
+    let after = match details.side {
+        Side::Debit => balance.checked_sub_unsigned(details.amount),
+        Side::Credit => balance.checked_add_unsigned(details.amount),
+    };
+    after.filter(|after| (-BOUND..=BOUND).contains(after))
 }
 
-// The place of a card's account.
-fn find(places: &[Option<Account>; ACCOUNTS], card: &Card) -> Option<usize>
-    ensures { MatchOption result (Unknown places.now card.now) (λ i. Found places.now card.now i) }
+// The account after a booking that leaves its balance in its bounds.
+fn booked_on(account: Account, details: &Details) -> Account
+    requires { bounded (booked details.now.side details.now.amount account.balance) ≡ true }
+    ensures { result ≡ booked_on account details.now }
 {
-    for (i, place) in places.iter().enumerate() {
-        if let Some(account) = place
-            && account.card == *card
-        {
-            return Some(i);
-        }
+    Account {
+        balance: after_booking(account.balance, details).unwrap(),
+        ..account
     }
-    None
 }
 
 impl Account {
@@ -74,99 +71,99 @@ impl Account {
         ensures { result ≡ good self.now }
     {
         let card = self.card;
-        1 <= card.count
-            && card.count <= 19
-            && card.digits < 10u64.pow(card.count as u32)
-            && 0 <= self.balance
-            && self.balance <= MOST
+        matches!(card.count, 1..=19)
+            && card.digits < 10u64.pow(u32::from(card.count))
+            && (0..=MOST).contains(&self.balance)
     }
 }
 
-// Whether an account may be opened beside those that are.
-fn may_join(places: &[Option<Account>; ACCOUNTS], account: &Account) -> bool
-    ensures { result ≡ (good account.now && unknown places.now account.now.card) }
+// Whether a card has an account among these.
+fn is_listed(accounts: &[Account], card: &Card) -> bool
+    ensures { result ≡ listed accounts.now card.now }
 {
-    account.is_good() && find(places, &account.card).is_none()
+    accounts.iter().any(|account| account.card == *card)
+}
+
+// Whether each account may be opened beside the others.
+fn are_single(accounts: &[Account]) -> bool
+    ensures { result ≡ single accounts.now }
+{
+    let mut rest = accounts;
+    while let Some((account, others)) = rest.split_first() {
+        if !account.is_good() || is_listed(others, &account.card) {
+            return false;
+        }
+        rest = others;
+    }
+    true
 }
 
 impl Accounts {
     // Opens accounts, or refuses them all.
     pub fn open(accounts: &[Account]) -> Result<Accounts, BadAccounts>
-        ensures { MatchResult result (λ a. (sound accounts.now ≡ true) × (a.places ≡ placed accounts.now)) (λ _. sound accounts.now ≡ false) }
+        ensures { MatchResult result (λ a. (sound accounts.now ≡ true) × (a.all.items ≡ accounts.now)) (λ _. sound accounts.now ≡ false) }
     {
-        if accounts.len() > ACCOUNTS {
-            return Err(BadAccounts);
+        match ArrayVec::try_from(accounts) {
+            Ok(all) if are_single(accounts) => Ok(Accounts { all }),
+            _ => Err(BadAccounts),
         }
-        let mut places = [None; ACCOUNTS];
-        for (i, account) in accounts.iter().enumerate() {
-            if !may_join(&places, account) {
-                return Err(BadAccounts);
-            }
-            places[i] = Some(*account);
-        }
-        Ok(Accounts { places })
+    }
+
+    // The place of a card's account.
+    fn find(&self, card: &Card) -> Option<usize>
+        ensures { result ≡ position (λ a. same_card a.card card.now) self.now.all.items }
+    {
+        self.all.iter().position(|account| account.card == *card)
     }
 
     // What a card has, if it has an account.
     pub fn balance(&self, card: &Card) -> Option<i64>
-        ensures { result ≡ balance_of self.now.places card.now }
+        ensures { result ≡ balance_of self.now.all.items card.now }
     {
-        match find(&self.places, card) {
-            Some(i) => match self.places[i] {
-                Some(account) => Some(account.balance),
-                None => None,
-            },
-            None => None,
-        }
+        self.all
+            .iter()
+            .find(|account| account.card == *card)
+            .map(|account| account.balance)
     }
 
     // Whether a booking would leave the balance in its bounds.
-    pub fn stays(&self, card: &Card, side: Side, amount: u64) -> bool
-        ensures { result ≡ stays (balance_of self.now.places card.now) side amount }
+    pub fn stays(&self, details: &Details) -> bool
+        ensures { result ≡ stays (balance_of self.now.all.items details.now.card) details.now }
     {
-        match self.balance(card) {
-            Some(balance) => after_booking(balance, side, amount).is_some(),
-            None => true,
-        }
+        self.balance(&details.card)
+            .is_none_or(|balance| after_booking(balance, details).is_some())
     }
 
     // Books an amount on a card.
-    pub fn book(&mut self, card: &Card, side: Side, amount: u64)
-        requires { stays (balance_of self.old.places card.now) side amount ≡ true }
-        ensures { self.new.places ≡ with_booking self.old.places card.now side amount }
+    #[tactic(auto, using(crate::proofs::Finds::read, crate::proofs::Finds::booking, crate::proofs::Finds::no_booking))]
+    pub fn book(&mut self, details: &Details)
+        requires { stays (balance_of self.old.all.items details.now.card) details.now ≡ true }
+        ensures { self.new.all.items ≡ with_booking self.old.all.items details.now }
     {
-        let Some(i) = find(&self.places, card) else {
-            return;
-        };
-        if let Some(account) = self.places[i]
-            && let Some(balance) = after_booking(account.balance, side, amount)
-        {
-            self.places[i] = Some(Account {
-                card: account.card,
-                balance,
-            });
+        if let Some(i) = self.find(&details.card) {
+            self.all[i] = booked_on(self.all[i], details);
         }
     }
 
     // A line that becomes posted is booked, once.
     pub fn post(&mut self, found: Line, details: &Details, answer: PostAnswer)
-        requires { found ≡ Absent → answer ≡ posting.Posted → stays (balance_of self.old.places details.now.card) details.now.side details.now.amount ≡ true }
-        ensures { self.new.places ≡ accounts_after_post self.old.places found details.now answer }
+        requires { found ≡ Absent → answer ≡ posting.Posted → stays (balance_of self.old.all.items details.now.card) details.now ≡ true }
+        ensures { self.new.all.items ≡ accounts_after_post self.old.all.items found details.now answer }
     {
         if let (Line::Absent, PostAnswer::Posted) = (found, answer) {
-            self.book(&details.card, details.side, details.amount);
+            self.book(details);
         }
     }
 
     // A posted or leaving line that is closed is booked back, once.
     pub fn reverse(&mut self, found: Line, answer: ReverseAnswer)
-        requires { answer ≡ reversing.Done → StaysBack self.old.places found }
-        ensures { self.new.places ≡ accounts_after_reverse self.old.places found answer }
+        requires { answer ≡ reversing.Done → StaysBack self.old.all.items found }
+        ensures { self.new.all.items ≡ accounts_after_reverse self.old.all.items found answer }
     {
         if let (Line::Posted(booked) | Line::Leaving(booked), ReverseAnswer::Done) = (
             found, answer,
         ) {
-            self.book(&booked.card, opposite(booked.side), booked.amount);
+            self.book(&undoing(booked));
         }
     }
 }

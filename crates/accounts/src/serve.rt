@@ -10,19 +10,19 @@ use host::Host;
 
 impl BalanceBook {
     // Makes one call.
+    #[tactic(auto, using(crate::proofs::Served::post_made, crate::proofs::Served::reverse_made, crate::proofs::Served::forget_made, crate::proofs::Served::line_made))]
     fn make(&mut self, call: Call) -> Answer
         ensures { Made (view self.old) call result (view self.new) }
     {
         match call {
             Call::Post {
-                issuer,
-                number,
+                key,
                 details,
                 must_stand,
-            } => Answer::Post(self.post(issuer, number, details, must_stand)),
-            Call::Reverse { issuer, number } => Answer::Reverse(self.reverse(issuer, number)),
-            Call::Forget { issuer, number } => Answer::Forget(self.forget(issuer, number)),
-            Call::Line { issuer, number } => Answer::Line(self.line(issuer, number)),
+            } => Answer::Post(self.post(key, details, must_stand)),
+            Call::Reverse { key } => Answer::Reverse(self.reverse(key)),
+            Call::Forget { key } => Answer::Forget(self.forget(key)),
+            Call::Line { key } => Answer::Line(self.line(key)),
             Call::Turn => {
                 self.turn();
                 Answer::Turn
@@ -32,17 +32,13 @@ impl BalanceBook {
 
     // Makes calls in their order, and writes each answer beside its call. Whatever they are, on a book without lines every
     // balance then is what it was, with each booking once and each booking back once.
+    #[tactic(auto, using(crate::proofs::Served::ran_none, crate::proofs::Served::ran_more, crate::proofs::Served::same_calls))]
     pub fn serve(&mut self, exchanges: &mut [Exchange])
         ensures calls { map called exchanges.new ≡ map called exchanges.old }
         ensures balances { (r : Ran (view self.old) exchanges.new (view self.new)) × (NoLines (view self.old) → Balanced r.history (view self.old) (view self.new)) }
     {
-        for i in 0..exchanges.len() {
-            let call = exchanges[i].call;
-            let answer = self.make(call);
-            exchanges[i] = Exchange {
-                call,
-                answer: Some(answer),
-            };
+        for exchange in exchanges.iter_mut() {
+            exchange.answer = Some(self.make(exchange.call));
         }
     }
 }

@@ -1,49 +1,44 @@
 -- The bounds of the sums are kept by each change of the books.
-use Rattle.std.proofs.Common.{◌≡◌, ℕ, zero, suc, ◌+◌, ◌*◌, ◌^◌, ◌<◌, ◌≤◌, true, false, ◌&&◌, ltb, [], ◌∷◌, length, get_or, set, IfSome, Some, None, Option, sym, refl, ap, ◌∙◌, subst, arith, length-set, MatchOption}
-use Rattle.std.proofs.lemmas.Bool.{and_parts, and_from, ltb-true}
+use Rattle.std.proofs.Common.{◌≡◌, ℕ, zero, suc, ◌+◌, ◌<◌, ◌≤◌, true, false, [], ◌∷◌, length, get_or, set, IfSome, Some, None, Option, sym, refl, ap, ◌∙◌, subst, arith, length-set, MatchOption}
+use Rattle.std.proofs.lemmas.Bool.Decides.{nat_tests}
 use Rattle.journal.specs.Entries.{side_of, owing, in_state}
 use Rattle.journal.specs.Entries as entries
 use Rattle.journal.specs.Numbers.{acquirer}
 use Rattle.journal.specs.Places.{Places, seek, Found, taken, undone, lowest_free, one_if}
 use Rattle.journal.specs.declared.entry.Entry.{Entry}
+use Rattle.journal.specs.declared.entry.Held.{Held}
 use Rattle.journal.specs.declared.entry.State.{State}
-use Rattle.journal.specs.declared.entry.State.TheVariants.{Waiting, Completed, Declined, Owed, Reversed, Barred}
 use Rattle.journal.proofs.Tallies.{taken_at_most, undone_at_most, taken_new, undone_new, taken_over, undone_over}
 use Rattle.sums.specs.Sums.{Sums, ApprovedWithin, ReversedWithin}
-use Rattle.sums.proofs.Within.{approved_more, reversed_more, approved_stays, reversed_stays, approved_rises, reversed_rises}
+use Rattle.sums.proofs.Within.{approved_more, reversed_more, approved_rises, reversed_rises}
 use Rattle.books.specs.Ledgers.{reversed, counted}
 use Rattle.books.specs.Sizes.{small, small_at, all_small}
 
 -- sizes
 pub small-set : (ps : Places) (i : ℕ) (p : Option Entry) → all_small ps ≡ true → small_at p ≡ true → all_small (set ps i p) ≡ true
-small-set [] zero p h k = refl
-small-set [] (suc i) p h k = refl
-small-set (q ∷ ps) zero p h k = and_from _ _ k (and_parts (small_at q) (all_small ps) h).1
-small-set (q ∷ ps) (suc i) p h k = let a = and_parts (small_at q) (all_small ps) h in and_from _ _ a.0 (small-set ps i p a.1 k)
+small-set [] i p h k = refl
+small-set (q ∷ ps) zero p h k = grind arith
+small-set (q ∷ ps) (suc i) p h k = let rest = small-set ps i p in grind arith
 
 small_place : (ps : Places) (i : ℕ) → all_small ps ≡ true → small_at (get_or ps i None) ≡ true
-small_place [] zero h = refl
-small_place [] (suc i) h = refl
-small_place (q ∷ ps) zero h = (and_parts (small_at q) (all_small ps) h).0
-small_place (q ∷ ps) (suc i) h = small_place ps i (and_parts (small_at q) (all_small ps) h).1
+small_place [] i h = refl
+small_place (q ∷ ps) zero h = grind arith
+small_place (q ∷ ps) (suc i) h = let rest = small_place ps i in grind arith
 
 pub small_here : (ps : Places) (i : ℕ) (e : Entry) → all_small ps ≡ true → get_or ps i None ≡ Some e → small e ≡ true
 small_here ps i e h is = sym (ap small_at is) ∙ small_place ps i h
 
 -- an entry that was found is small
-pub found_small : (ps : Places) (n : ℕ) (r : Option (ℕ × Entry)) → all_small ps ≡ true → MatchOption r (seek ps n ≡ None) (λ p. Found ps n p.0 p.1) → IfSome r (λ p. small p.1 ≡ true)
+pub found_small : (ps : Places) (n : ℕ) (r : Option Held) → all_small ps ≡ true → MatchOption r (seek ps n ≡ None) (λ held. Found ps n held.place held.entry) → IfSome r (λ held. small held.entry ≡ true)
 found_small ps n None h f = tt
-found_small ps n (Some p) h f = small_here ps p.0 p.1 h f.there
+found_small ps n (Some held) h f = small_here ps held.place held.entry h f.there
 
 -- owed by a reversal, it is so still: its code is then 21
 pub small_owing : (e : Entry) → small e ≡ true → small (owing e) ≡ true
-small_owing e h =
-    let p = and_parts (ltb e.number (16 * 10 ^ 16) && ltb e.issuer 16 && ltb e.code 100) (ltb e.amount (10 ^ 12)) h in
-    let q = and_parts (ltb e.number (16 * 10 ^ 16) && ltb e.issuer 16) (ltb e.code 100) p.0 in
-    and_from _ _ (and_from _ _ q.0 refl) p.1
+small_owing e h = grind (arith, nat_tests)
 
-amount_small : (e : Entry) → small e ≡ true → e.amount ≤ 1000000000000
-amount_small e h = omega (arith, ltb-true e.amount (10 ^ 12) (and_parts _ _ h).1)
+amount_small : (e : Entry) → small e ≡ true → e.terms.amount ≤ 1000000000000
+amount_small e h = grind (arith, nat_tests)
 
 -- what today approved and reversed is within what the journal has
 pub record Within (ps : Places) (s : Sums) : Type 0 where
@@ -51,21 +46,14 @@ pub record Within (ps : Places) (s : Sums) : Type 0 where
   pub reversals : ReversedWithin (undone ps) s
 
 -- a new entry: one place more is taken
-counts_within : (st : State) (n : ℕ) (s : Sums) (e : Entry) → e.amount ≤ 1000000000000 → ApprovedWithin n s → ApprovedWithin (n + 1) (counted st s e)
-counts_within Waiting n s e h w = approved_more n s (acquirer e.number) e.issuer (side_of e.processing) e.amount h w
-counts_within Completed n s e h w = approved_more n s (acquirer e.number) e.issuer (side_of e.processing) e.amount h w
-counts_within Declined n s e h w = approved_rises n (n + 1) s (omega arith) w
-counts_within Owed n s e h w = approved_rises n (n + 1) s (omega arith) w
-counts_within Reversed n s e h w = approved_rises n (n + 1) s (omega arith) w
-counts_within Barred n s e h w = approved_rises n (n + 1) s (omega arith) w
+counts_within : (st : State) (n : ℕ) (s : Sums) (e : Entry) → e.terms.amount ≤ 1000000000000 → ApprovedWithin n s → ApprovedWithin (n + 1) (counted st s e)
+counts_within st n s e h w m p q =
+    let more = approved_more n s (acquirer e.number) e.issuer (side_of e.terms.processing) e.terms.amount h w m p q in
+    let less = approved_rises n (n + 1) s (omega arith) w m p q in
+    grind arith
 
 still_within : (st : State) (n : ℕ) (s : Sums) (e : Entry) → ReversedWithin n s → ReversedWithin n (counted st s e)
-still_within Waiting n s e w = reversed_stays n s (acquirer e.number) e.issuer (side_of e.processing) e.amount w
-still_within Completed n s e w = reversed_stays n s (acquirer e.number) e.issuer (side_of e.processing) e.amount w
-still_within Declined n s e w = w
-still_within Owed n s e w = w
-still_within Reversed n s e w = w
-still_within Barred n s e w = w
+still_within st n s e w m p q = let same = w m p q in grind arith
 
 module _ (ps : Places) (i : ℕ) (e : Entry) (s : Sums) (full : length ps ≡ 512) (free : lowest_free ps ≡ Some i) (w : Within ps s) where
   pub room_for_one : ApprovedWithin 511 s
@@ -102,8 +90,8 @@ module _ (ps : Places) (i : ℕ) (e : Entry) (s : Sums) (full : length ps ≡ 51
       let k = ap taken places ∙ taken_over ps i e (owing e) (omega arith) here in
       let u = ap undone places ∙ undone_more in
       record {
-        approvals = subst (λ n. ApprovedWithin n t) (sym k) (subst (ApprovedWithin (taken ps)) (sym sums) (approved_stays (taken ps) s (acquirer e.number) e.issuer (side_of e.processing) e.amount w.approvals));
-        reversals = subst (λ n. ReversedWithin n t) (sym u) (subst (ReversedWithin (undone ps + 1)) (sym sums) (reversed_more (undone ps) s (acquirer e.number) e.issuer (side_of e.processing) e.amount (amount_small e size) w.reversals));
+        approvals = subst (λ n. ApprovedWithin n t) (sym k) (subst (ApprovedWithin (taken ps)) (sym sums) w.approvals);
+        reversals = subst (λ n. ReversedWithin n t) (sym u) (subst (ReversedWithin (undone ps + 1)) (sym sums) (reversed_more (undone ps) s (acquirer e.number) e.issuer (side_of e.terms.processing) e.terms.amount (amount_small e size) w.reversals));
       }
 
 -- an entry in another state, which is undone if it was

@@ -40,10 +40,10 @@ fresh = record { places = replicate 512 None; mark = 0; horizon = 0; last = 0; t
 
 -- a transaction counts for its acquirer and its issuer, by its side and its amount
 abbrev pub approved : Sums → Entry → Sums
-approved s e = with_approval s (acquirer e.number) e.issuer (side_of e.processing) e.amount
+approved s e = with_approval s (acquirer e.number) e.issuer (side_of e.terms.processing) e.terms.amount
 
 abbrev pub reversed : Sums → Entry → Sums
-reversed s e = with_reversal s (acquirer e.number) e.issuer (side_of e.processing) e.amount
+reversed s e = with_reversal s (acquirer e.number) e.issuer (side_of e.terms.processing) e.terms.amount
 
 -- an entry that a message makes counts if it is completed or waiting
 abbrev pub counted : State → Sums → Entry → Sums

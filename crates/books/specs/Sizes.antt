@@ -5,7 +5,7 @@ use Rattle.journal.specs.declared.entry.Entry.{Entry}
 
 -- banks count to 15 at most, amounts have 12 digits at most, and response codes two
 abbrev pub small : Entry → Bool
-small e = nat_lt e.number (16 * 10 ^ 16) && nat_lt e.issuer 16 && nat_lt e.code 100 && nat_lt e.amount (10 ^ 12)
+small e = nat_lt e.number (16 * 10 ^ 16) && nat_lt e.issuer 16 && nat_lt e.code 100 && nat_lt e.terms.amount (10 ^ 12)
 
 abbrev pub small_at : Option Entry → Bool
 small_at None = true

@@ -10,7 +10,8 @@ pub mod entries;
 use journal::journal::Journal;
 use sums::day::Day;
 
-// Within a day nothing leaves the journal, so what today approved is no more than the entries there are, and what it reversed no
+// An entry may hold any numbers; that those in the books are small is the books' own fact, asked for where one is taken in. Within a
+// day nothing leaves the journal, so what today approved is no more than the entries there are, and what it reversed no
 // more than those that are owed or reversed: no sum overflows.
 #[derive(Drop)]
 pub struct Books {

@@ -10,10 +10,8 @@ use std::process::ExitCode;
 use std::{env, fs};
 
 fn deck_text(rt: &HostRuntime) -> anyhow::Result<Vec<u8>> {
-    let mut args = env::args(rt)?;
-    let _program = args.next();
-    if let Some(path) = args.next() {
-        return Ok(fs::read(rt, path.as_str())?);
+    if let Some(path) = env::args(rt)?.nth(1) {
+        return Ok(fs::read(rt, path)?);
     }
     let mut text = Vec::new(rt.alloc());
     rt.stdin().read_to_end(&mut text)?;

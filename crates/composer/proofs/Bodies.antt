@@ -1,26 +1,26 @@
 -- The elements of a message as text: what the writer puts down, and what the reader takes up.
-use Rattle.std.proofs.Common.{◌≡◌, ℕ, ◌+◌, ◌-◌, ◌≤◌, true, eqb, leb, List, [], ◌∷◌, ◌++◌, map, length, take, drop, None, Ok, Err, Result, sym, refl, ap, ◌∙◌, subst, ⊎_elim, append_assoc, arith, rules}
+use Rattle.std.proofs.lemmas.Grind.{common_steps}
+use Rattle.std.proofs.lemmas.Bool.Decides.{nat_tests}
+use Rattle.std.proofs.Common.{◌≡◌, ℕ, ◌+◌, ◌-◌, ◌≤◌, true, List, [], ◌∷◌, ◌++◌, map, length, drop, None, Ok, Err, Result, sym, refl, ap, ◌∙◌, subst, ⊎_elim, append_assoc, arith, rules}
 use Rattle.std.specs.List.{between}
-use Rattle.std.proofs.lemmas.List.{length-append, take_at, drop_at, places, same_lists}
-use Rattle.std.proofs.lemmas.Bool.{cond-true, cond-false, cases_Bool, eqb-true, eq-eqb, leb-true, le-leb}
+use Rattle.std.proofs.lemmas.List.{length-append, drop_at, places, same_lists}
+use Rattle.std.proofs.lemmas.Bool.{cond-true, cond-false, cases_Bool}
 use Rattle.elements.specs.declared.fault.ElementFault.{ElementFault}
-use Rattle.elements.specs.declared.fault.ElementFault.TheVariants.{Length, Character}
 use Rattle.elements.specs.declared.fault.MessageFault.{MessageFault}
-use Rattle.elements.specs.declared.fault.MessageFault.TheVariants.{Order, Room}
 use Rattle.iso8583.specs.declared.found.Found.{Found}
 use Rattle.elements.specs.declared.table.Length.{Length as Lengths}
 use Rattle.elements.specs.declared.table.Length.TheVariants.{Fixed, UpTo}
 use Rattle.elements.specs.declared.table.Row.{Row}
 use Rattle.iso8583.specs.Bitmap.{marked}
 use Rattle.composer.specs.Contents.{Item, item_of, Composed, on, all_put}
-use Rattle.iso8583.specs.Reading.{after, before, unless, lifted, wrong, elements}
+use Rattle.iso8583.specs.Reading.{after, before, lifted, wrong, elements}
 use Rattle.elements.specs.Table.{admits, fits}
 use Rattle.elements.specs.Fields.{field, spelled}
-use Rattle.composer.specs.Writing.{State, laid, grown, chosen, checked, placing, filling, next_is, putting}
+use Rattle.composer.specs.Writing.{State, laid, grown, chosen, next_is, putting}
 use Rattle.iso8583.proofs.Digits.{length-spelled}
 use Rattle.iso8583.proofs.Elements.{Spelt, found_at, respelt}
 use Rattle.composer.proofs.Lays.{laid_next, length-laid}
-use Rattle.iso8583.proofs.Outcomes.{never, same_ok, chosen_ok, unless_ok, after_is_ok}
+use Rattle.iso8583.proofs.Outcomes.{never, same_ok}
 use Rattle.elements.proofs.Rows.{proper, proper_first, short}
 use Rattle.iso8583.proofs.Tiles.{stepped}
 
@@ -61,18 +61,7 @@ pub record Went (out : List ℕ) (used : ℕ) (row : Row) (rest : List Row) (i :
   pub is : grown out used (field row.length i.chars) rest ≡ s
 
 went : (out : List ℕ) (used : ℕ) (row : Row) (rest : List Row) (i : Item) (s : State) → next_is out used (row ∷ rest) i.number i.chars ≡ Ok s → Went out used row rest i s
-went out used row rest i s h =
-    let a = chosen_ok (eqb row.element i.number) (filling out used row rest i.chars) (Order row.element) s h in
-    let b = after_is_ok (lifted (checked row i.chars)) (λ _. placing out used row rest i.chars) s a.1 in
-    let c = lifted_ok (checked row i.chars) b.0 b.1 in
-    let d = chosen_ok (admits row.length (length i.chars)) (unless (wrong (fits row.format) (length i.chars) 0 i.chars) (λ j. Character row.element 0) tt) (Length row.element 0) b.0 c in
-    let e = unless_ok (wrong (fits row.format) (length i.chars) 0 i.chars) (λ j. Character row.element 0) tt b.0 d.1 in
-    let f = chosen_ok (leb (used + length (field row.length i.chars)) (length out)) (Ok (grown out used (field row.length i.chars) rest)) (Room row.element) s b.2 in
-    record {
-      allowed = record { number = sym (eqb-true row.element i.number a.0); admitted = d.0; fitting = e.0 };
-      room = leb-true _ (length out) f.0;
-      is = same_ok f.1;
-    }
+went out used row rest i s h = grind (arith, nat_tests)
 
 -- a composed message is the text of its elements
 pub record Ran (out : List ℕ) (used : ℕ) (rows : List Row) (is : List Item) (n : ℕ) (c : Composed) : Type 0 where
@@ -103,11 +92,7 @@ ran (row ∷ rows) (i ∷ is) out used n l h =
 
 -- elements that the table allows are put down, if there is room
 putting_filled : (out : List ℕ) (used : ℕ) (row : Row) (rest : List Row) (i : Item) → Matches row i → used + length (field row.length i.chars) ≤ length out → next_is out used (row ∷ rest) i.number i.chars ≡ Ok (grown out used (field row.length i.chars) rest)
-putting_filled out used row rest i m h =
-    cond-true _ _ _ (eq-eqb row.element i.number (sym m.number))
-    ∙ ap (λ r. after (lifted r) (λ _. placing out used row rest i.chars))
-    (cond-true _ _ _ m.admitted ∙ ap (λ o. unless o (λ j. Character row.element 0) tt) m.fitting)
-    ∙ cond-true _ _ _ (le-leb _ (length out) h)
+putting_filled out used row rest i m h = grind (arith, nat_tests)
 
 pub runs : (rows : List Row) (is : List Item) (out : List ℕ) (used : ℕ) → Filled rows is → used + length (text rows is) ≤ length out → all_put (record { out = out; used = used; rest = rows }) is ≡ record { answer = Ok (used + length (text rows is)); out = laid out used (text rows is) }
 runs [] [] out used f h = let e : used ≡ used + 0 = omega arith in λ j. record { answer = Ok (e j); out = laid_nothing out used j }
@@ -124,9 +109,7 @@ runs (row ∷ rows) (i ∷ is) out used f h =
 
 -- a part in the middle
 middle : (a b c : List ℕ) (s e : ℕ) → s ≡ length a → e ≡ s + length b → between s e (a ++ (b ++ c)) ≡ b
-middle a b c s e p q =
-    let n : e - s ≡ length b = omega arith in
-    (λ j. take (n j) (drop s (a ++ (b ++ c)))) ∙ ap (take (length b)) (drop_at a (b ++ c) s (sym p)) ∙ take_at b c (length b) refl
+middle a b c s e p q = grind (arith, nat_tests, common_steps)
 
 -- the characters of an element that was found
 item_chars : (l : Lengths) (row : Row) (pre chars rest : List ℕ) → between (found_at l row (length pre) (length chars)).start (found_at l row (length pre) (length chars)).end (pre ++ (field l chars ++ rest)) ≡ chars

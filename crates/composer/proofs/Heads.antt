@@ -1,4 +1,6 @@
 -- The type and the bitmaps of a message, written and read.
+use Rattle.std.proofs.lemmas.Grind.{common_steps}
+use Rattle.std.proofs.lemmas.Bool.Decides.{nat_tests}
 use Rattle.std.proofs.Common.{◌≡◌, ℕ, zero, suc, ◌+◌, ◌/◌, ◌%◌, ◌^◌, ◌<◌, ◌≤◌, Bool, true, false, cond, List, [], ◌∷◌, ◌++◌, length, take, drop, None, Ok, sym, ap, ◌∙◌, subst, ⊎_elim, append_assoc, append-nil, arith}
 use Rattle.std.specs.Str.Parse.{digits_value, AllDigits}
 use Rattle.std.proofs.lemmas.Nat.{shr_below, mod_below, pow_pos}
@@ -57,9 +59,7 @@ module _ (mti bits : ℕ) (rest : List ℕ) (h : mti ≤ 9999) (s : Sound bits) 
 
   apart : whole ≡ spelled 10 4 mti ++ (spelled 16 16 (bits / 2 ^ 64) ++ (low_text bits ++ rest))
   unfolding head
-  apart =
-      append_assoc (spelled 10 4 mti) (spelled 16 16 (bits / 2 ^ 64) ++ low_text bits) rest
-      ∙ ap (λ l. spelled 10 4 mti ++ l) (append_assoc (spelled 16 16 (bits / 2 ^ 64)) (low_text bits) rest)
+  apart = grind (arith, nat_tests, common_steps)
 
   pub mti_read : mti_of whole ≡ Ok mti
   mti_read = ap mti_of apart ∙ numeral_read ten 4 (λ i. Mti i) 0 mti _ (omega arith)

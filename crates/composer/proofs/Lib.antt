@@ -1,9 +1,11 @@
 pub mod Bitmaps
 pub mod Bodies
+pub mod Gathers
 pub mod Heads
 pub mod Lays
 pub mod Lows
 pub mod Puts
+pub mod Rests
 pub mod Rounds
 pub mod Sets
 pub mod Spellings

@@ -1,8 +1,9 @@
 -- The two halves of a bitmap.
+use Rattle.std.proofs.lemmas.Bool.Decides.{nat_tests}
 use Rattle.std.proofs.Common.{◌≡◌, ℕ, ◌+◌, ◌-◌, ◌*◌, ◌/◌, ◌%◌, ◌^◌, ◌<◌, ◌≤◌, true, false, eqb, sym, ap, ◌∙◌, ⊎_elim, arith}
 use native.Mathlib.Nat.{zero-div}
 use lib.Count.{count_leading_zeros}
-use Rattle.std.proofs.lemmas.Nat.{field_of, shr-shr, shl-shr, mod_below, pow_pos, mod-pow-add, shr_split, shr_high, mod_low}
+use Rattle.std.proofs.lemmas.Nat.{field_of, mod_below, pow_pos, mod-pow-add, shr_split, shr_high, mod_low}
 use Rattle.std.proofs.lemmas.Bool.{cases_eq, cases_lt, both_ways}
 use Rattle.iso8583.specs.Bitmap.{marked, joined}
 use Rattle.iso8583.proofs.Bits.{top, vanished}
@@ -41,11 +42,7 @@ none_low bits k e l h = sym (low_bit bits k l h) ∙ ap (λ b. marked b k) e ∙
 
 -- bit 1 is one of the first half
 pub first_bit : (bits : ℕ) → marked (joined (bits / 2 ^ 64) 0) 1 ≡ marked bits 1
-first_bit bits =
-    let h = bits / 2 ^ 64 in
-    let plain : h * 2 ^ 64 + 0 ≡ h * 2 ^ 64 = omega arith in
-    let down : (h * 2 ^ 64) / 2 ^ 127 ≡ bits / 2 ^ 127 = sym (shr-shr (h * 2 ^ 64) 64 63) ∙ ap (λ n. n / 2 ^ 63) (shl-shr h 64) ∙ shr-shr bits 64 63 in
-    ap (λ n. eqb (n / 2 ^ 127 % 2) 1) plain ∙ ap (λ n. eqb (n % 2) 1) down
+first_bit bits = grind (arith, nat_tests)
 
 pub halves_joined : (bits : ℕ) → joined (bits / 2 ^ 64) (bits % 2 ^ 64) ≡ bits
 halves_joined bits = shr_split bits 64

@@ -1,6 +1,6 @@
 -- Reading and writing undo each other.
-use Rattle.std.proofs.Common.{◌≡◌, ℕ, ◌+◌, ◌%◌, ◌^◌, ◌<◌, ◌≤◌, true, false, not, ◌&&◌, ◌||◌, eqb, leb, List, [], ◌∷◌, ◌++◌, map, length, take, drop, is_some, Some, None, Ok, sym, refl, ap, ◌∙◌, subst, ⊎_elim, arith}
-use Rattle.std.specs.List.{AllByRecursion}
+use Rattle.std.proofs.Common.{◌≡◌, ℕ, suc, ◌+◌, ◌%◌, ◌^◌, ◌<◌, ◌≤◌, true, false, not, ◌&&◌, ◌||◌, eqb, leb, List, [], ◌∷◌, ◌++◌, map, length, take, drop, is_some, Some, None, Ok, sym, refl, ap, ◌∙◌, subst, ⊎_elim, arith}
+use Rattle.std.specs.List.{All}
 use Rattle.std.proofs.lemmas.List.{take_at, length-append}
 use Rattle.std.proofs.lemmas.Bool.{cond-true, cond-false, cases_Bool, cases_eq, eqb-true, leb-true, or_cases, and_from, and_right, and_left, and_parts, both_ways}
 use Rattle.elements.specs.declared.fault.MessageFault.TheVariants.{Mti, Unknown, Room}
@@ -24,12 +24,12 @@ use Rattle.composer.proofs.Sets.{bits_same, bits_back}
 use Rattle.composer.proofs.Starts.{started}
 use Rattle.iso8583.proofs.Wholes.{read_whole}
 
-all_listed : (P : ℕ → Type 0) (ns : List ℕ) (k : ℕ) → AllByRecursion P ns → listed ns k ≡ true → P k
+all_listed : (P : ℕ → Type 0) (ns : List ℕ) (k : ℕ) → All P ns → listed ns k ≡ true → P k
 all_listed P [] k a h = absurd (both_ways false refl h)
-all_listed P (n ∷ ns) k a h = ⊎_elim (λ t. subst P (eqb-true n k t) a.0) (λ t. all_listed P ns k a.1 t) (or_cases (eqb n k) (listed ns k) h)
+all_listed P (n ∷ ns) k a h = ⊎_elim (λ t. subst P (eqb-true n k t) (a 0 0 (omega arith))) (λ t. all_listed P ns k (λ j d l. a (suc j) d (omega arith)) t) (or_cases (eqb n k) (listed ns k) h)
 
 -- the bitmap of a set that is announced
-module _ (ns : List ℕ) (bits : ℕ) (small : AllByRecursion (λ n. n < 256) ns) (a : announced ns ≡ Ok bits) where
+module _ (ns : List ℕ) (bits : ℕ) (small : All (λ n. n < 256) ns) (a : announced ns ≡ Ok bits) where
   none : first (outside ns) 0 256 ≡ None
   none = (unless_ok (first (outside ns) 0 256) (λ k. Unknown k 0) (bits_from (marks ns) 128) bits a).0
 
@@ -84,7 +84,7 @@ says mti bits is four sound filled =
     let r = read_whole w mti bits bits (sym (mti_read mti bits t four sound)) (sym (bits_read mti bits t four sound)) (sym (sound_marks bits sound)) u.found found in
     ap (λ p. after p (λ q. Ok (content q.mti (map (item_of w) q.elements)))) r ∙ ap (λ x. Ok (content mti x)) u.same
 
-pub read_again : (out : List ℕ) (mti : ℕ) (is : List Item) (n : ℕ) → AllByRecursion (λ m. m < 256) (map (λ i. i.number) is) → (composed out mti is).answer ≡ Ok n → content_of (take n (composed out mti is).out) ≡ Ok (content mti is)
+pub read_again : (out : List ℕ) (mti : ℕ) (is : List Item) (n : ℕ) → All (λ m. m < 256) (map (λ i. i.number) is) → (composed out mti is).answer ≡ Ok n → content_of (take n (composed out mti is).out) ≡ Ok (content mti is)
 read_again out mti is n small h =
     let a = on_ok (starting out mti (map (λ i. i.number) is)) out (λ s. all_put s is) n h in
     let b = begins out mti (map (λ i. i.number) is) a.0 a.1 in

@@ -3,10 +3,10 @@ use Rattle.std.proofs.Common.{◌≡◌, ℕ, zero, suc, ◌+◌, ◌*◌, ◌/�
 use native.Mathlib.Nat.{pow-zero}
 use Rattle.std.specs.Str.Parse.{digits_value}
 use Rattle.std.specs.Char.{digit_value}
-use Rattle.std.specs.List.{AllByRecursion}
+use Rattle.std.specs.List.{All}
 use Rattle.std.proofs.lemmas.Nat.{div-mul-add, mod-mul-add, div_below, div-add-mod', mod_below}
 use Rattle.std.proofs.lemmas.Int.Digits.{digits_value_push, digits_value_more}
-use Rattle.std.proofs.ByRecursion.{All-push}
+use Rattle.std.proofs.lemmas.List.Elements.{All-nil, All-push}
 use Rattle.std.proofs.lemmas.List.{take_more}
 use Rattle.std.proofs.lemmas.Bool.{cond-true}
 use Rattle.std.proofs.lemmas.Bool.Decides.{nat_tests}
@@ -25,22 +25,10 @@ pub record Base (base : ℕ) (good : ℕ → Bool) : Type 0 where
   pub back : (c : ℕ) → good c ≡ true → digit (digit_value c) ≡ c
 
 pub ten : Base 10 decimal
-ten = record {
-  some = omega arith;
-  fits = λ d h. grind (arith, nat_tests);
-  worth = λ d h. grind (arith, nat_tests);
-  below = λ c h. grind (arith, nat_tests);
-  back = λ c h. grind (arith, nat_tests);
-}
+ten = grind (arith, nat_tests)
 
 pub sixteen : Base 16 hexadecimal
-sixteen = record {
-  some = omega arith;
-  fits = λ d h. grind (arith, nat_tests);
-  worth = λ d h. grind (arith, nat_tests);
-  below = λ c h. grind (arith, nat_tests);
-  back = λ c h. grind (arith, nat_tests);
-}
+sixteen = grind (arith, nat_tests)
 
 -- every one of the first n characters passes
 pub wrong_good : (good : ℕ → Bool) (n i : ℕ) (cs : List ℕ) → wrong good n i cs ≡ None → (j : ℕ) → j < n → good (get_or cs j 0) ≡ true
@@ -49,14 +37,14 @@ wrong_good good (suc n) i [] w j h = absurd (let z : ◌≡◌ {A = ℕ} 0 1 = c
 wrong_good good (suc n) i (c ∷ cs) w zero h = (passed (good c) i w).0
 wrong_good good (suc n) i (c ∷ cs) w (suc j) h = wrong_good good n (i + 1) cs (passed (good c) i w).1 j (omega arith)
 
-good_wrong : (good : ℕ → Bool) (i : ℕ) (cs : List ℕ) → AllByRecursion (λ c. good c ≡ true) cs → wrong good (length cs) i cs ≡ None
+good_wrong : (good : ℕ → Bool) (i : ℕ) (cs : List ℕ) → All (λ c. good c ≡ true) cs → wrong good (length cs) i cs ≡ None
 good_wrong good i [] a = refl
-good_wrong good i (c ∷ cs) a = cond-true _ _ _ a.0 ∙ good_wrong good (i + 1) cs a.1
+good_wrong good i (c ∷ cs) a = cond-true _ _ _ (a 0 0 (omega arith)) ∙ good_wrong good (i + 1) cs (λ j d l. a (suc j) d (omega arith))
 
 module _ {base : ℕ} {good : ℕ → Bool} (b : Base base good) where
-  all_spelled : (n v : ℕ) → AllByRecursion (λ c. good c ≡ true) (spelled base n v)
+  all_spelled : (n v : ℕ) → All (λ c. good c ≡ true) (spelled base n v)
   unfolding spelled
-  all_spelled zero v = tt
+  all_spelled zero v = All-nil (λ c. good c ≡ true)
   all_spelled (suc n) v = All-push (λ c. good c ≡ true) (spelled base n (v / base)) (digit (v % base)) (all_spelled n (v / base)) (b.fits (v % base) (mod_below v base b.some))
 
   -- what is spelled has no wrong character

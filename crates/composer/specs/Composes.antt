@@ -9,9 +9,6 @@ use Rattle.composer.specs.Writers.{state_of}
 abbrev pub items : List Element → List Item
 items es = map item es
 
-abbrev pub numbers : List Element → List ℕ
-numbers es = map (λ i. i.number) (items es)
-
 -- the answer and the buffer are those of the steps
 abbrev pub Steps : Composed → Result ℕ MessageFault → List ℕ → Type 0
 Steps c r out' = (r ≡ c.answer) × (out' ≡ c.out)

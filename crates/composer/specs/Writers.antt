@@ -1,5 +1,5 @@
 -- What a writer's steps answer and leave.
-use Rattle.std.specs.Prelude.{◌≡◌, ℕ, ◌+◌, ◌<◌, ◌≤◌, List, length, drop, Some, None, Ok, Err, Option, Result}
+use Rattle.std.specs.Prelude.{◌≡◌, ℕ, ◌+◌, ◌<◌, ◌≤◌, List, length, Some, None, Ok, Err, Option, Result}
 use Rattle.elements.specs.declared.fault.MessageFault.{MessageFault}
 use Rattle.composer.specs.declared.writer.Writer.{Writer}
 use Rattle.elements.specs.declared.table.Row.{Row}
@@ -8,7 +8,7 @@ use Rattle.composer.specs.Writing.{State, laid, chosen, starting, putting}
 
 -- the elements that are still to come
 abbrev pub rest_of : Writer → List Row
-rest_of w = chosen (drop w.row table) w.bitmap
+rest_of w = chosen table w.left
 
 -- a writer with its buffer
 abbrev pub state_of : List ℕ → Writer → State

@@ -1,23 +1,11 @@
 // A whole message from its elements.
-ghost use Rattle.composer.specs.Announced.{Announced};
-ghost use Rattle.composer.specs.Composes.{Steps, Puts, numbers, items};
+ghost use Rattle.composer.specs.Composes.{Steps, Puts, items};
 ghost use Rattle.composer.specs.Contents.{composed};
 ghost use Rattle.composer.specs.Laws.{ReadAgain, YieldedAgain};
 
-use crate::marks::Marks;
 use crate::writer::Writer;
 use elements::fault::MessageFault;
 use iso8583::message::Element;
-
-fn mark_all(elements: &[Element]) -> Marks
-    ensures { Announced (numbers elements.now) result.bitmap result.stranger }
-{
-    let mut marks = Marks::new();
-    for element in elements {
-        marks.add(element.number);
-    }
-    marks
-}
 
 // Each element, then the end.
 fn put_all(mut writer: Writer, out: &mut [u8], elements: &[Element]) -> Result<usize, MessageFault>
@@ -35,7 +23,6 @@ pub fn compose(out: &mut [u8], mti: u16, elements: &[Element]) -> Result<usize, 
     ensures read_again { ReadAgain mti (items elements.now) result out.new }
     ensures yielded_again { YieldedAgain out.old mti (items elements.now) result out.new }
 {
-    let marks = mark_all(elements);
-    let writer = Writer::begin(out, mti, &marks)?;
+    let writer = Writer::start_with(out, mti, elements.iter().map(|element| element.number))?;
     put_all(writer, out, elements)
 }

@@ -3,5 +3,5 @@
 
 pub mod compose;
 mod marks;
-mod spell;
+pub mod spell;
 pub mod writer;

@@ -1,6 +1,9 @@
-// The elements that a message is to have, told one by one.
-ghost use Rattle.std.specs.Prelude.{◌≡◌, ℕ, ◌≤◌, List, [], ◌∷◌, ◌++◌};
-ghost use Rattle.composer.specs.Announced.{Announced, lower};
+// The set of elements that a message is to have.
+ghost use Rattle.std.specs.Prelude.{◌≡◌, ℕ, ◌<◌, ◌≤◌, List, [], ◌∷◌, ◌++◌};
+ghost use Rattle.std.specs.List.{All};
+ghost use Rattle.std.specs.Iterator.{IsFinite};
+ghost use Rattle.std.specs.Iterator.Runs.{WholeRun};
+ghost use Rattle.composer.specs.Announced.{gathered};
 ghost use Rattle.iso8583.specs.Bitmap.{marked};
 ghost use Rattle.elements.specs.Table.{table, known};
 ghost use Rattle.composer.specs.Writing.{announced, sets};
@@ -8,20 +11,11 @@ ghost use Rattle.composer.specs.Writing.{announced, sets};
 use elements::fault::MessageFault;
 use iso8583::bitmap::{bit, is_marked, known_bits};
 
-// Their bitmap so far, and the lowest of those that the table does not have.
-#[derive(Clone, Copy)]
-pub(crate) struct Marks {
-    pub(crate) bitmap: u128,
-    pub(crate) stranger: Option<u8>,
-}
-
+#[tactic(auto, using(crate::proofs::Gathers::unknown))]
 fn is_known(element: u8) -> bool
     ensures { result ≡ known table element }
 {
-    if element < 2 || element > 128 {
-        return false;
-    }
-    is_marked(known_bits(), element)
+    matches!(element, 2..=128) && is_marked(known_bits(), element)
 }
 
 // The bits that an element sets: its own, and bit 1 if it is above 64.
@@ -36,44 +30,27 @@ fn bits_of(element: u8) -> u128
     }
 }
 
-// The lower of two elements.
-fn lower(lowest: Option<u8>, element: u8) -> u8
-    ensures { result ≡ lower lowest element }
+// One element more of a set: the bits of all, or the lowest that the table does not have.
+fn add(set: Result<u128, u8>, element: u8) -> Result<u128, u8>
+    ensures { (es : List ℕ) → set ≡ gathered es → result ≡ gathered (es ++ element ∷ []) }
 {
-    match lowest {
-        Some(low) if low < element => low,
-        _ => element,
+    match (set, is_known(element)) {
+        (Ok(bits), true) => Ok(bits | bits_of(element)),
+        (Ok(_), false) => Err(element),
+        (Err(lowest), true) => Err(lowest),
+        (Err(lowest), false) => Err(lowest.min(element)),
     }
 }
 
-impl Marks {
-    pub(crate) fn new() -> Marks
-        ensures { Announced [] result.bitmap result.stranger }
-    {
-        Marks {
-            bitmap: 0,
-            stranger: None,
-        }
+// The bitmap of a set, if the table has all its elements: their order does not count, nor does how often one is named.
+pub(crate) fn announce<I: Iterator<Item = u8>>(elements: I) -> Result<u128, MessageFault>
+    requires can { I.can_next elements }
+    requires ends { IsFinite (I.remaining elements) }
+    ensures { WholeRun I.next_gives elements (λ p. All (λ e. e < 256) p.items × (result ≡ announced p.items)) }
+{
+    let mut set = Ok(0);
+    for element in elements {
+        set = add(set, element);
     }
-
-    // One element more.
-    pub(crate) fn add(&mut self, element: u8)
-        ensures { (es : List ℕ) → Announced es self.old.bitmap self.old.stranger → Announced (es ++ element ∷ []) self.new.bitmap self.new.stranger }
-    {
-        if is_known(element) {
-            self.bitmap |= bits_of(element);
-        } else {
-            self.stranger = Some(lower(self.stranger, element));
-        }
-    }
-
-    // The bitmap of all elements, if the table has them all.
-    pub(crate) fn bitmap(&self) -> Result<u128, MessageFault>
-        ensures { (es : List ℕ) → Announced es self.now.bitmap self.now.stranger → result ≡ announced es }
-    {
-        match self.stranger {
-            Some(element) => Err(MessageFault::Unknown { element, place: 0 }),
-            None => Ok(self.bitmap),
-        }
-    }
+    set.map_err(|element| MessageFault::Unknown { element, place: 0 })
 }

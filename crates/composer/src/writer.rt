@@ -1,36 +1,44 @@
 // A message is written in steps: its type and the elements that it will have, then each of them in rising order, then the end.
-ghost use Rattle.std.specs.Prelude.{◌≡◌, ℕ, ◌+◌, ◌<◌, ◌≤◌, List, [], ◌∷◌, length, drop, MatchOption, slice_index_or};
-ghost use Rattle.composer.specs.Announced.{Announced};
+ghost use Rattle.std.specs.Prelude.{◌≡◌, ℕ, ◌+◌, ◌<◌, ◌≤◌, List, [], ◌∷◌, length, find, option_copied};
+ghost use Rattle.std.specs.List.{All};
+ghost use Rattle.std.specs.Iterator.{IsFinite};
+ghost use Rattle.std.specs.Iterator.Runs.{WholeRun};
 ghost use Rattle.iso8583.specs.Reading.{body};
-ghost use Rattle.elements.specs.Table.{table, blank};
 ghost use Rattle.composer.specs.Writers.{rest_of, Started, Placed, Put};
 ghost use Rattle.elements.specs.Fields.{field};
-ghost use Rattle.composer.specs.Writing.{head, laid, checked, chosen, ending};
+ghost use Rattle.elements.specs.Table.{table};
+ghost use Rattle.iso8583.specs.Bitmap.{marked};
+ghost use Rattle.composer.specs.Writing.{head, laid, checked, ending};
 
-use crate::marks::Marks;
-use crate::spell::{lay, spell_half, spell_length, spell_mti};
+use crate::marks::announce;
+use crate::spell::{lay, spell};
 use elements::fault::{ElementFault, MessageFault};
+use elements::number::Base;
 use elements::table::{Length, Row, rows};
-use iso8583::bitmap::{body, is_marked};
+use iso8583::bitmap::{bit, body, is_marked};
 use iso8583::read::first_wrong;
 
-// A writer under way. The buffer is passed to each step. Rows of the table before `row` are done with.
+// A writer under way: how much of the message is written, and marks of the elements that are still to come. The buffer stays with
+// its caller and is passed to each step: were it lent to the writer, a caller could not know that a refused start left it alone.
 #[derive(Drop)]
 pub struct Writer {
     used: usize,
-    bitmap: u128,
-    row: usize,
+    left: u128,
 }
 
 // The type and the bitmaps.
+#[tactic(auto, using(crate::proofs::Lays::head_single, crate::proofs::Lays::head_double))]
 fn lay_head(out: &mut [u8], mti: u16, bitmap: u128)
-    requires { (mti ≤ 9999) × (body bitmap ≤ length out.old) }
+    requires { body bitmap ≤ length out.old }
     ensures { out.new ≡ laid out.old 0 (head mti bitmap) }
 {
-    lay(out, 0, &spell_mti(mti));
-    lay(out, 4, &spell_half((bitmap >> 64) as u64));
+    let mti = spell::<4>(Base::Decimal, u64::from(mti));
+    lay(out, 0, &mti);
+    let high = spell::<16>(Base::Hexadecimal, (bitmap >> 64) as u64);
+    lay(out, 4, &high);
     if is_marked(bitmap, 1) {
-        lay(out, 20, &spell_half((bitmap & u128::from(u64::MAX)) as u64));
+        let low = spell::<16>(Base::Hexadecimal, (bitmap % (1 << 64)) as u64);
+        lay(out, 20, &low);
     }
 }
 
@@ -51,93 +59,84 @@ fn check(row: &Row, chars: &[u8]) -> Result<(), ElementFault>
 // Writes an element from a place on, after its length digits where its length varies. Answers where it ends, or none where it does
 // not fit the buffer.
 fn lay_field(out: &mut [u8], at: usize, size: Length, chars: &[u8]) -> Option<usize>
-    requires { length chars.now ≤ 99 }
     ensures { Placed out.old at (field size chars.now) result out.new }
 {
-    let n = chars.len();
-    let lead = size.lead();
-    if out.len() < at || out.len() - at < lead + n {
+    let end = at.checked_add(size.lead() + chars.len())?;
+    if out.len() < end {
         return None;
     }
-    if lead == 2 {
-        lay(out, at, &spell_length(n));
+    match size {
+        Length::Fixed(_) => lay(out, at, chars),
+        Length::UpTo(_) => {
+            lay(out, at, &spell::<2>(Base::Decimal, chars.len() as u64));
+            lay(out, at + 2, chars);
+        }
     }
-    lay(out, at + lead, chars);
-    Some(at + lead + n)
+    Some(end)
 }
 
 impl Writer {
-    // Starts a message whose elements are marked already.
-    pub(crate) fn begin(out: &mut [u8], mti: u16, marks: &Marks) -> Result<Writer, MessageFault>
-        ensures { (es : List ℕ) → Announced es marks.now.bitmap marks.now.stranger → Started out.old mti es result out.new }
+    // Starts a message of a type with the elements that an iterator gives: their order does not count, nor does how often one is named.
+    pub fn start_with<I: Iterator<Item = u8>>(
+        out: &mut [u8],
+        mti: u16,
+        elements: I,
+    ) -> Result<Writer, MessageFault>
+        requires can { I.can_next elements }
+        requires ends { IsFinite (I.remaining elements) }
+        ensures { WholeRun I.next_gives elements (λ p. All (λ e. e < 256) p.items × Started out.old mti p.items result out.new) }
     {
+        // A type that is none is told before an element that is unknown.
+        let bitmap = announce(elements);
         if mti > 9999 {
             return Err(MessageFault::Mti { place: 0 });
         }
-        let bitmap = marks.bitmap()?;
+        let bitmap = bitmap?;
         let used = body(bitmap);
         if out.len() < used {
             return Err(MessageFault::Room { element: 0 });
         }
         lay_head(out, mti, bitmap);
-        Ok(Writer {
-            used,
-            bitmap,
-            row: 0,
-        })
+        Ok(Writer { used, left: bitmap })
     }
 
-    // Starts a message of a type with a set of elements: their order does not count, nor does how often one is named.
+    // Starts a message of a type with a set of elements.
     pub fn start(out: &mut [u8], mti: u16, elements: &[u8]) -> Result<Writer, MessageFault>
         ensures { Started out.old mti elements.now result out.new }
     {
-        let mut marks = Marks::new();
-        for element in elements {
-            marks.add(*element);
-        }
-        Writer::begin(out, mti, &marks)
+        Writer::start_with(out, mti, elements.iter().copied())
     }
 
     // The row of the next element announced.
-    fn next(&self) -> Option<usize>
-        ensures { MatchOption result (rest_of self.now ≡ []) (λ i. (i < length table) × (rest_of self.now ≡ slice_index_or table i blank ∷ chosen (drop (i + 1) table) self.now.bitmap)) }
+    fn next(&self) -> Option<&'static Row>
+        ensures { option_copied result ≡ find (λ row. marked self.now.left row.element) table }
     {
-        for (i, row) in rows().iter().enumerate() {
-            if i >= self.row && is_marked(self.bitmap, row.element) {
-                return Some(i);
-            }
-        }
-        None
+        rows().iter().find(|row| is_marked(self.left, row.element))
     }
 
     // One element more: the next one announced, with its characters. A refusal leaves writer and buffer as they were.
+    #[tactic(auto, using(crate::proofs::Rests::none_left, crate::proofs::Rests::next_left))]
     pub fn put(&mut self, out: &mut [u8], element: u8, chars: &[u8]) -> Result<(), MessageFault>
         ensures { Put out.old self.old element chars.now result out.new self.new }
     {
-        let Some(i) = self.next() else {
-            return Err(MessageFault::Order { next: 0 });
-        };
-        let row = rows()[i];
+        let row = self.next().ok_or(MessageFault::Order { next: 0 })?;
         if row.element != element {
             return Err(MessageFault::Order { next: row.element });
         }
-        check(&row, chars)?;
-        let Some(used) = lay_field(out, self.used, row.length, chars) else {
-            return Err(MessageFault::Room { element });
-        };
-        self.used = used;
-        self.row = i + 1;
+        check(row, chars)?;
+        let end = lay_field(out, self.used, row.length, chars);
+        self.used = end.ok_or(MessageFault::Room { element })?;
+        self.left &= !bit(element);
         Ok(())
     }
 
     // Ends the message, and answers its length.
+    #[tactic(auto, using(crate::proofs::Rests::none_left, crate::proofs::Rests::next_left))]
     pub fn end(self) -> Result<usize, MessageFault>
         ensures { result ≡ ending self.used (rest_of self) }
     {
         match self.next() {
-            Some(i) => Err(MessageFault::Order {
-                next: rows()[i].element,
-            }),
+            Some(row) => Err(MessageFault::Order { next: row.element }),
             None => Ok(self.used),
         }
     }

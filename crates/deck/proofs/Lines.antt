@@ -1,40 +1,61 @@
--- How a loop over the lines of a deck reads its commands.
-use Rattle.std.proofs.Common.{◌≡◌, ℕ, suc, ◌+◌, ◌<◌, ◌≤◌, Bool, true, false, eqb, List, [], ◌∷◌, ◌++◌, map, length, Some, None, Ok, Err, Option, Result, sym, refl, ap, ◌∙◌, append_assoc, append-nil, one-add, arith, length-drop}
-use Rattle.std.specs.List.{prefix_len}
-use Rattle.std.proofs.lemmas.List.{map_push, nil_from_length}
-use Rattle.deck.specs.declared.Command.{Command}
+-- How a loop over the parts between line feeds reads the commands of a deck.
+use Rattle.std.proofs.Common.{◌≡◌, ℕ, ◌+◌, ◌<◌, ◌≤◌, true, false, cond, ◌⊎◌, inl, inr, List, [], ◌∷◌, ◌++◌, length, get_or, drop, Some, None, Ok, Err, Option, Result, ◌==◌, refl, sym, ap, subst, ◌∙◌, append_assoc, append-nil, zero-add, arith}
+use Rattle.std.specs.List.{slice_split, onto_first, enumerate_from}
+use Rattle.std.specs.Iterator.{Yields}
+use denote.Ref.{Bor}
+use Rattle.std.proofs.lemmas.Iterator.{YieldsList}
+use Rattle.std.proofs.lemmas.Iterator.Consumers.{YieldsList-turn, YieldsList-end}
+use Rattle.std.proofs.lemmas.List.FromFn.{get_or-enumerate_from, length-enumerate_from}
+use Rattle.std.proofs.lemmas.List.{get_or_default, at_drop_more, at_drop_all}
+use Rattle.deck.specs.Deck.{Asked, asked, with_line, lines, and_then, asked_from, Blames}
 use Rattle.deck.specs.declared.LineFault.{LineFault}
 use Rattle.deck.specs.declared.LineFault.TheVariants as fault
-use Rattle.deck.specs.declared.text.Run.TheVariants.{To}
-use Rattle.deck.specs.Text.{passes, before, behind}
-use Rattle.deck.specs.Deck.{Asked, meant, asked, with_line, onto_line, lines, and_then, asked_from, Blames}
 
--- a command more at the end
-pub one_command : (done all : List Command) (o : Option (Option Asked)) (x : Command) → o ≡ Some (Some (meant x)) → all ≡ done ++ x ∷ [] → with_line (map meant done) o ≡ Some (map meant all)
-one_command done all o x e made = ap (with_line (map meant done)) e ∙ ap Some (sym (ap (map meant) made ∙ map_push meant done x))
+abbrev pub parts : List ℕ → List (List ℕ)
+parts text = slice_split (λ c. c == 10) text
 
-module _ (c : ℕ) (cs : List ℕ) where
-  at_stop : eqb c 10 ≡ true → lines (c ∷ cs) ≡ before 10 (c ∷ cs) ∷ lines (behind 10 (c ∷ cs))
-  at_stop e = rw e refl
+-- the parts are the lines, with an empty one behind the last line feed
+abbrev Ends : List (List ℕ) → List (List ℕ) → Type 0
+Ends ps ls = (ps ≡ ls) ⊎ (ps ≡ ls ++ [] ∷ [])
 
-  go_on : eqb c 10 ≡ false → onto_line c (lines cs) ≡ (c ∷ before 10 cs) ∷ lines (behind 10 cs) → lines (c ∷ cs) ≡ before 10 (c ∷ cs) ∷ lines (behind 10 (c ∷ cs))
-  go_on e h =
-      let n = prefix_len (passes (To 10)) cs in
-      let one : suc n + 1 ≡ suc (n + 1) = omega arith in
-      rw (e, one-add n, one) h
+onto : (c : ℕ) (ps ls : List (List ℕ)) → Ends ps ls → Ends (onto_first c ps) (onto_first c ls)
+onto c ps ls (inl e) = inl (ap (onto_first c) e)
+onto c ps [] (inr e) = inl (ap (onto_first c) e)
+onto c ps (l ∷ ls) (inr e) = inr (ap (onto_first c) e)
 
-  rest_step : (ds : List ℕ) → (0 < length ds → lines ds ≡ before 10 ds ∷ lines (behind 10 ds)) → onto_line c (lines ds) ≡ (c ∷ before 10 ds) ∷ lines (behind 10 ds)
-  rest_step [] step = refl
-  rest_step (d ∷ ds) step = ap (onto_line c) (step (omega arith))
+stop : (ps ls : List (List ℕ)) → Ends ps ls → Ends ([] ∷ ps) ([] ∷ ls)
+stop ps ls (inl e) = inl (ap (λ x. [] ∷ x) e)
+stop ps ls (inr e) = inr (ap (λ x. [] ∷ x) e)
 
-  either : (b : Bool) → eqb c 10 ≡ b → (0 < length cs → lines cs ≡ before 10 cs ∷ lines (behind 10 cs)) → lines (c ∷ cs) ≡ before 10 (c ∷ cs) ∷ lines (behind 10 (c ∷ cs))
-  either true e step = at_stop e
-  either false e step = go_on e (rest_step cs step)
+ends : (text : List ℕ) → Ends (parts text) (lines text)
+ends [] = inr refl
+ends (c ∷ cs) = elim (c == 10) as (λ b. Ends (cond b ([] ∷ parts cs) (onto_first c (parts cs))) (cond b ([] ∷ lines cs) (onto_first c (lines cs)))) [
+  | true ↦ stop (parts cs) (lines cs) (ends cs)
+  | false ↦ onto c (parts cs) (lines cs) (ends cs)
+]
 
--- the first line of a text that is not empty, and the others
-lines_step : (text : List ℕ) → 0 < length text → lines text ≡ before 10 text ∷ lines (behind 10 text)
-lines_step [] h = absurd (omega arith)
-lines_step (c ∷ cs) h = either c cs (eqb c 10) refl (lines_step cs)
+-- an empty line at the end asks for nothing
+one_empty : (n : ℕ) (ls : List (List ℕ)) → asked_from n (ls ++ [] ∷ []) ≡ asked_from n ls
+one_empty n [] = refl
+one_empty n (l ∷ ls) = ap (and_then (asked l) n) (one_empty (n + 1) ls)
+
+asked_parts : (text : List ℕ) → asked_from 1 (parts text) ≡ asked_from 1 (lines text)
+asked_parts text = elim (ends text) [
+  | inl e ↦ ap (asked_from 1) e
+  | inr e ↦ ap (asked_from 1) e ∙ one_empty 1 (lines text)
+]
+
+-- a loop over the parts with their numbers: which part an item is, and that none follows the last
+module _ {S : Type 0} {steps : S → Option (ℕ × Bor (List ℕ)) → S → Type 0} {s : S} (text : List ℕ) (road : YieldsList {B = ℕ × List ℕ} steps (λ p. (p.0, p.1.now)) s (enumerate_from 0 (parts text))) {t : S} {r : Option (ℕ × Bor (List ℕ))} {u : S} (xs : List (ℕ × Bor (List ℕ))) (before : Yields steps s xs t) (step : steps t r u) where
+  pub turn : (i : ℕ) (line : Bor (List ℕ)) → r ≡ Some (i, line) → (length xs < length (parts text)) × (i ≡ length xs) × (line.now ≡ get_or (parts text) (length xs) [])
+  turn i line is =
+      let it = YieldsList-turn road xs t before r u (i, line) is step in
+      let inside : length xs < length (parts text) = subst (λ n. length xs < n) (length-enumerate_from 0 (parts text)) it.0 in
+      let same = it.1 ∙ get_or-enumerate_from 0 (parts text) (length xs) (i, line.now) inside in
+      (inside, ap (λ p. p.0) same ∙ zero-add (length xs), ap (λ p. p.1) same ∙ get_or_default (parts text) (length xs) line.now [] inside)
+
+  pub end : r ≡ None → length (parts text) ≤ length xs
+  end is = let it = YieldsList-end road xs t before r u is step in omega (arith, it.1, length-enumerate_from 0 (parts text))
 
 -- what was asked for before, and then
 abbrev after : List Asked → Result (List Asked) ℕ → Result (List Asked) ℕ
@@ -51,31 +72,25 @@ one_more done new (Some None) n r e = ap (λ l. after l r) (let z : done ≡ new
 one_more done new (Some (Some a)) n (Ok more) e = let z : done ++ a ∷ [] ≡ new = cc in ap Ok (sym (append_assoc done (a ∷ []) more) ∙ ap (λ l. l ++ more) z)
 one_more done new (Some (Some a)) n (Err k) e = refl
 
--- done is what the lines before rest ask for, and the first line of rest has this number
-pub record Sofar (text rest : List ℕ) (line : ℕ) (done : List Asked) : Type 0 where
-  pub same : after done (asked_from line (lines rest)) ≡ asked_from 1 (lines text)
-  pub few : line + length rest ≤ length text + 1
+-- done is what the first n parts ask for
+pub record Sofar (text : List ℕ) (n : ℕ) (done : List Asked) : Type 0 where
+  pub same : after done (asked_from (n + 1) (drop n (parts text))) ≡ asked_from 1 (lines text)
 
-pub start : (text : List ℕ) (done : List Asked) → done ≡ [] → Sofar text text 1 done
-start text done e = record { same = rw e (after_nothing _); few = omega arith }
+pub start : (text : List ℕ) (done : List Asked) → done ≡ [] → Sofar text 0 done
+start text done e = record { same = rw e (after_nothing _ ∙ asked_parts text) }
 
-pub shorter : (rest : List ℕ) → 0 < length rest → length (behind 10 rest) < length rest
-shorter rest some = omega (arith, length-drop (prefix_len (passes (To 10)) rest + 1) rest)
+module _ {text : List ℕ} {n : ℕ} {done : List Asked} (old : Sofar text n done) where
+  here : n < length (parts text) → (line : List ℕ) → line ≡ get_or (parts text) n [] → after done (and_then (asked line) (n + 1) (asked_from (n + 1 + 1) (drop (n + 1) (parts text)))) ≡ asked_from 1 (lines text)
+  here inside line is = ap (λ l. after done (and_then (asked l) (n + 1) (asked_from (n + 1 + 1) (drop (n + 1) (parts text))))) is ∙ sym (ap (after done) (at_drop_more (asked_from (n + 1)) (parts text) n [] inside)) ∙ old.same
 
-module _ {text rest : List ℕ} {line : ℕ} {done : List Asked} (old : Sofar text rest line done) where
-  pub next : (first others : List ℕ) (new : List Asked) → 0 < length rest → first ≡ before 10 rest → others ≡ behind 10 rest → with_line done (asked first) ≡ Some new → Sofar text others (line + 1) new
-  next first others new some front back e = record {
-    same =
-        sym (one_more done new (asked first) line (asked_from (line + 1) (lines others)) e) ∙ sym (ap (λ ls. after done (asked_from line ls)) (lines_step rest some ∙ (λ i. sym front i ∷ lines (sym back i)))) ∙ old.same;
-    few = omega (arith, old.few, ap length back, shorter rest some);
-  }
+  pub next : (line : List ℕ) (new : List Asked) → n < length (parts text) → line ≡ get_or (parts text) n [] → with_line done (asked line) ≡ Some new → Sofar text (n + 1) new
+  next line new inside is e = record { same = sym (one_more done new (asked line) (n + 1) _ e) ∙ here inside line is }
 
-  pub wrong : (first : List ℕ) → 0 < length rest → first ≡ before 10 rest → asked first ≡ None → asked_from 1 (lines text) ≡ Err line
-  wrong first some front e =
-      sym old.same ∙ ap (λ ls. after done (asked_from line ls)) (lines_step rest some) ∙ ap (λ o. after done (and_then o line (asked_from (line + 1) (lines (behind 10 rest))))) (ap asked (sym front) ∙ e)
+  pub wrong : (line : List ℕ) → n < length (parts text) → line ≡ get_or (parts text) n [] → asked line ≡ None → asked_from 1 (lines text) ≡ Err (n + 1)
+  wrong line inside is e = sym (here inside line is) ∙ ap (λ o. after done (and_then o (n + 1) (asked_from (n + 1 + 1) (drop (n + 1) (parts text))))) e
 
-  pub done_all : length rest ≡ 0 → asked_from 1 (lines text) ≡ Ok done
-  done_all e = sym old.same ∙ ap (λ r. after done (asked_from line (lines r))) (nil_from_length rest e) ∙ ap Ok (append-nil done)
+  pub done_all : length (parts text) ≤ n → asked_from 1 (lines text) ≡ Ok done
+  done_all e = sym old.same ∙ ap (after done) (at_drop_all (asked_from (n + 1)) (parts text) n e) ∙ ap Ok (append-nil done)
 
 pub blames_too : {P Q : Type 0} (e : LineFault) → (P → Q) → Blames e P → Blames e Q
 blames_too fault.Command so h = so h

@@ -1,6 +1,7 @@
 -- What the lines of a deck ask for.
 use Rattle.std.specs.Prelude.{ℕ, ◌+◌, cond, List, [], ◌∷◌, ◌++◌, length, Some, None, Ok, Err, vec_items, codes, Option, Result, ◌==◌}
 use Rattle.std.specs.Option.{option_map}
+use Rattle.std.specs.List.{onto_first}
 use Rattle.std.specs.Str.{bytes_eq}
 use Rattle.deck.specs.declared.Keyword.{Keyword}
 use Rattle.deck.specs.declared.Keyword.TheVariants as keyword
@@ -8,6 +9,8 @@ use Rattle.deck.specs.declared.Command.{Command}
 use Rattle.deck.specs.declared.Command.TheVariants.{Message, Show, Room}
 use Rattle.deck.specs.declared.LineFault.{LineFault}
 use Rattle.deck.specs.declared.LineFault.TheVariants as fault
+use Rattle.hex.specs.declared.error.FromHexError.{FromHexError}
+use Rattle.hex.specs.declared.error.FromHexError.TheVariants.{OutOfMemory}
 use Rattle.deck.specs.Text.{before, first_word, after_word, without_blanks, hex_bytes, number_in}
 
 -- a command, with what stands behind its keyword
@@ -66,14 +69,15 @@ Blames fault.Digits P = P
 Blames fault.Number P = P
 Blames fault.Memory P = Unit {0}
 
--- the lines of a text: each ends at a line feed, the last one perhaps at the end
-abbrev pub onto_line : ℕ → List (List ℕ) → List (List ℕ)
-onto_line c [] = (c ∷ []) ∷ []
-onto_line c (l ∷ ls) = (c ∷ l) ∷ ls
+-- the fault of a line whose digits could not be decoded
+abbrev pub hex_fault : FromHexError → LineFault
+hex_fault OutOfMemory = fault.Memory
+hex_fault e = fault.Digits
 
+-- the lines of a text: each ends at a line feed, the last one perhaps at the end
 abbrev pub lines : List ℕ → List (List ℕ)
 lines [] = []
-lines (c ∷ cs) = cond (c == 10) ([] ∷ lines cs) (onto_line c (lines cs))
+lines (c ∷ cs) = cond (c == 10) ([] ∷ lines cs) (onto_first c (lines cs))
 
 abbrev pub and_then : Option (Option Asked) → ℕ → Result (List Asked) ℕ → Result (List Asked) ℕ
 and_then None n more = Err n

@@ -1,64 +1,39 @@
 -- How the text of a deck is cut and read: blanks, words, hexadecimal digits and numbers.
-use Rattle.std.specs.Prelude.{ℕ, ◌+◌, ◌-◌, ◌*◌, Bool, cond, not, ◌&&◌, ◌||◌, List, [], ◌∷◌, length, take, drop, Some, None, filter, Option, ◌==◌, nat_le}
-use Rattle.std.specs.List.{prefix_len}
-use Rattle.deck.specs.declared.text.Run.{Run}
-use Rattle.deck.specs.declared.text.Run.TheVariants.{To, Blanks, Word}
-
-abbrev pub within : ℕ → ℕ → ℕ → Bool
-within low high c = nat_le low c && nat_le c high
+use Rattle.std.specs.Prelude.{ℕ, Bool, cond, not, ◌||◌, List, length, drop, None, filter, Option, ◌==◌, nat_le}
+use Rattle.std.specs.List.{prefix_len, position_or_len, before_first, after_first}
+use Rattle.std.specs.Result.{result_ok}
+use Rattle.hex.specs.Hex.{decode_of}
+use Rattle.elements.specs.Numbers.{number_of}
 
 -- space, tab and carriage return
 abbrev pub blank : ℕ → Bool
 blank c = c == 32 || c == 9 || c == 13
 
--- the bytes that a run goes on over: those that differ from one, blanks, or those that are no blank
-abbrev pub passes : Run → ℕ → Bool
-passes (To stop) c = not (c == stop)
-passes Blanks c = blank c
-passes Word c = not (blank c)
-
 -- the bytes before the first one that is `stop`, and those behind it: all and none where there is no such byte
 abbrev pub before : ℕ → List ℕ → List ℕ
-before stop text = take (prefix_len (passes (To stop)) text) text
+before stop text = before_first (λ c. c == stop) text
 
 abbrev pub behind : ℕ → List ℕ → List ℕ
-behind stop text = drop (prefix_len (passes (To stop)) text + 1) text
+behind stop text = after_first (λ c. c == stop) text
 
 -- the bytes from the first that is no blank on
 abbrev pub from_word : List ℕ → List ℕ
-from_word text = drop (prefix_len (passes Blanks) text) text
+from_word text = drop (prefix_len blank text) text
 
 -- the first word, and what follows it
 abbrev pub first_word : List ℕ → List ℕ
-first_word text = take (prefix_len (passes Word) (from_word text)) (from_word text)
+first_word text = before_first blank (from_word text)
 
 abbrev pub after_word : List ℕ → List ℕ
-after_word text = drop (prefix_len (passes Word) (from_word text)) (from_word text)
+after_word text = drop (position_or_len blank (from_word text)) (from_word text)
 
 abbrev pub without_blanks : List ℕ → List ℕ
-without_blanks text = filter (passes Word) text
+without_blanks text = filter (λ c. not (blank c)) text
 
--- a hexadecimal digit of either case
-abbrev pub hex_digit : ℕ → Option ℕ
-hex_digit c = cond (within 48 57 c) (Some (c - 48)) (cond (within 65 70 c) (Some (c - 55)) (cond (within 97 102 c) (Some (c - 87)) None))
-
-abbrev pub with_byte : Option ℕ → Option ℕ → Option (List ℕ) → Option (List ℕ)
-with_byte None low bytes = None
-with_byte (Some high) None bytes = None
-with_byte (Some high) (Some low) None = None
-with_byte (Some high) (Some low) (Some bytes) = Some ((high * 16 + low) ∷ bytes)
-
--- the bytes that pairs of digits write: none where a digit is wrong, or one is left over
+-- the bytes that pairs of digits of either case write: none where a digit is wrong, or one is left over
 abbrev pub hex_bytes : List ℕ → Option (List ℕ)
-hex_bytes [] = Some []
-hex_bytes (a ∷ []) = None
-hex_bytes (a ∷ b ∷ cs) = with_byte (hex_digit a) (hex_digit b) (hex_bytes cs)
-
--- the number that digits write after n: none where a byte is no digit
-abbrev pub read_on : ℕ → List ℕ → Option ℕ
-read_on n [] = Some n
-read_on n (c ∷ cs) = cond (within 48 57 c) (read_on (n * 10 + (c - 48)) cs) None
+hex_bytes digits = result_ok (decode_of digits)
 
 -- a number is 1 to 18 digits
 abbrev pub number_in : List ℕ → Option ℕ
-number_in cs = cond (within 1 18 (length cs)) (read_on 0 cs) None
+number_in cs = cond (nat_le (length cs) 18) (number_of cs) None

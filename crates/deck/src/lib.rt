@@ -2,13 +2,13 @@
 #![tactic(auto)]
 
 ghost use Rattle.std.specs.Prelude.{◌≡◌, map, Some, None, Ok, Err, MatchResult};
-ghost use Rattle.std.specs.Option.{option_map};
-ghost use Rattle.deck.specs.Deck.{meant, keyword_of, number_alone, asked_by, asked, with_line, Blames, lines, asked_from};
-ghost use Rattle.deck.specs.declared.LineFault.TheVariants.{Memory};
+ghost use Rattle.std.specs.Option.{option_map, ok_or};
+ghost use Rattle.deck.specs.Deck.{meant, keyword_of, number_alone, asked_by, asked, with_line, Blames, lines, asked_from, hex_fault};
+ghost use Rattle.deck.specs.declared.LineFault.TheVariants.{Command, Memory};
 
+use hex::FromHexError;
 use std::alloc::{AllocError, AllocFailed, Global};
-use std::error::Error;
-use std::fmt;
+use thiserror::Error;
 
 mod text;
 
@@ -33,29 +33,24 @@ pub enum Command {
 }
 
 // Why a line is no command.
-#[derive(Clone, Copy, Debug)]
+#[derive(Clone, Copy, Debug, PartialEq, Eq, Error)]
 pub enum LineFault {
     // Its first word is none of the keywords.
+    #[error("no command")]
     Command,
     // What follows are no pairs of hexadecimal digits.
+    #[error("no pairs of hexadecimal digits")]
     Digits,
     // What follows is no number.
+    #[error("no number of 1 to 18 digits")]
     Number,
     // There was no memory to keep it.
+    #[error("no memory")]
     Memory,
 }
 
-impl fmt::Display for LineFault {
-    fn fmt<W: fmt::Write>(&self, f: &mut fmt::Formatter<W>) -> fmt::Result {
-        f.write_str(match self {
-            LineFault::Command => "no command",
-            LineFault::Digits => "no pairs of hexadecimal digits",
-            LineFault::Number => "no number of 1 to 18 digits",
-            LineFault::Memory => "no memory",
-        })
-    }
-}
-
+// These are by hand, since contracts rest on which fault a `?` makes, and a derived `From` promises nothing. An allocation
+// fails with the value that found no room, or without.
 impl From<AllocError> for LineFault {
     ghost from_gives = { λ _ r. r ≡ Memory };
 
@@ -72,37 +67,37 @@ impl<T: Drop> From<AllocFailed<T>> for LineFault {
     }
 }
 
+impl From<FromHexError> for LineFault {
+    ghost from_gives = { λ e r. r ≡ hex_fault e };
+
+    fn from(e: FromHexError) -> LineFault {
+        match e {
+            FromHexError::OutOfMemory => LineFault::Memory,
+            _ => LineFault::Digits,
+        }
+    }
+}
+
 // The first line of a deck that is no command, counted from 1.
-#[derive(Clone, Copy, Debug)]
+#[derive(Clone, Copy, Debug, PartialEq, Eq, Error)]
+#[error("line {line}: {fault}")]
 pub struct DeckFault {
     pub line: usize,
     pub fault: LineFault,
 }
 
-impl fmt::Display for DeckFault {
-    fn fmt<W: fmt::Write>(&self, f: &mut fmt::Formatter<W>) -> fmt::Result {
-        let line = self.line;
-        let fault = self.fault;
-        write!(f, "line {line}: {fault}")
-    }
-}
+impl TryFrom<&[u8]> for Keyword {
+    type Error = LineFault;
 
-impl Error for DeckFault {}
+    ghost try_from_gives = { λ word r. r ≡ ok_or (keyword_of word.now) Command };
 
-impl Keyword {
-    fn of(word: &[u8]) -> Option<Keyword>
-        ensures { result ≡ keyword_of word.now }
-    {
-        if text::same(word, b"message") {
-            Some(Keyword::Message)
-        } else if text::same(word, b"hex") {
-            Some(Keyword::Hex)
-        } else if text::same(word, b"show") {
-            Some(Keyword::Show)
-        } else if text::same(word, b"room") {
-            Some(Keyword::Room)
-        } else {
-            None
+    fn try_from(word: &[u8]) -> Result<Keyword, LineFault> {
+        match word {
+            b"message" => Ok(Keyword::Message),
+            b"hex" => Ok(Keyword::Hex),
+            b"show" => Ok(Keyword::Show),
+            b"room" => Ok(Keyword::Room),
+            _ => Err(LineFault::Command),
         }
     }
 }
@@ -130,15 +125,12 @@ impl Command {
             Keyword::Show => Ok(Command::Show(text::without_blanks(heap, text)?)),
             Keyword::Hex => {
                 let digits = text::without_blanks(heap, text)?;
-                match text::hex_bytes(heap, digits.as_slice())? {
-                    Some(bytes) => Ok(Command::Message(bytes)),
-                    None => Err(LineFault::Digits),
-                }
+                Ok(Command::Message(hex::decode(heap, digits)?))
             }
-            Keyword::Room => match number_alone(text) {
-                Some(n) => Ok(Command::Room(n as usize)),
-                None => Err(LineFault::Number),
-            },
+            Keyword::Room => {
+                let n = number_alone(text).ok_or(LineFault::Number)?;
+                Ok(Command::Room(n as usize))
+            }
         }
     }
 }
@@ -152,10 +144,8 @@ fn read_line(heap: Global, line: &[u8]) -> Result<Option<Command>, LineFault>
     if word.is_empty() {
         return Ok(None);
     }
-    match Keyword::of(word) {
-        Some(keyword) => Ok(Some(Command::read(heap, keyword, rest)?)),
-        None => Err(LineFault::Command),
-    }
+    let keyword = Keyword::try_from(word)?;
+    Ok(Some(Command::read(heap, keyword, rest)?))
 }
 
 // Adds what a line asks for to the commands before it.
@@ -179,15 +169,9 @@ impl Deck {
         ensures { MatchResult result (λ d. asked_from 1 (lines text.now) ≡ Ok (map meant d.commands.items)) (λ e. Blames e.fault (asked_from 1 (lines text.now) ≡ Err e.line)) }
     {
         let mut commands = Vec::new(heap);
-        let mut rest = text;
-        let mut line = 1;
-        while !rest.is_empty() {
-            let (first, others) = text::cut(rest, b'\n');
-            if let Err(fault) = take_line(heap, &mut commands, first) {
-                return Err(DeckFault { line, fault });
-            }
-            rest = others;
-            line += 1;
+        // Behind a line feed at the end comes one more part, which is empty and asks for nothing.
+        for (i, line) in text.split(|c| *c == b'\n').enumerate() {
+            take_line(heap, &mut commands, line).map_err(|fault| DeckFault { line: i + 1, fault })?;
         }
         Ok(Deck { commands })
     }

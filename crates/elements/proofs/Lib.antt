@@ -1,3 +1,3 @@
-pub mod Decimals
 pub mod Fractions
+pub mod Numerals
 pub mod Rows

@@ -76,3 +76,10 @@ known_range (row ∷ rows) low k p h =
     (λ t. let e = eqb-true row.element k t in (omega (arith, q.above), omega (arith, q.inside)))
     (λ t. let r = known_range rows row.element k q.others t in (omega (arith, q.above, r.0), r.1))
     (or_cases (eqb row.element k) (known rows k) h)
+
+-- the same of a list that is known to be the table, as the code reads it
+pub row_range : (rows : List Row) (i : ℕ) (d : Row) → rows ≡ table → i < length rows → (1 ≤ (get_or rows i d).element) × ((get_or rows i d).element ≤ 128)
+row_range rows i d same h =
+    let range = in_table i d (omega (arith, ap length same)) in
+    let here = ap (λ rs. (get_or rs i d).element) same in
+    (omega (arith, here, range.0), omega (arith, here, range.1))

@@ -1,16 +1,9 @@
 -- Element 90: type, trace number, moment, acquirer and forwarder of the original message.
-use Rattle.std.specs.Prelude.{◌≡◌, ℕ, ◌-◌, ◌^◌, ◌<◌, true, cond, ◌&&◌, ◌||◌, List, length, take, Some, None, Option, ◌==◌, nat_lt}
+use Rattle.std.specs.Prelude.{ℕ, ◌<◌, cond, ◌&&◌, List, length, Some, None, Option, ◌==◌}
 use Rattle.std.specs.List.{between}
 use Rattle.std.specs.Str.Parse.{digits_value}
 use Rattle.elements.specs.Numbers.{all_decimal}
 use Rattle.elements.specs.declared.original.Original.{Original}
-
--- n is written from one place up to another, and all bytes before that are digits: so all are, if no more follow
-pub record Written (ds : List ℕ) (from to n : ℕ) : Type 0 where
-  pub sum : n ≡ digits_value 10 (between from to ds)
-  pub small : n < 10 ^ (to - from)
-  pub before : all_decimal (take to ds) ≡ true
-  pub whole : (nat_lt to (length ds) || all_decimal ds) ≡ true
 
 -- 4, 6, 10, 11 and 11 digits
 abbrev pub parts : List ℕ → Original
@@ -25,3 +18,11 @@ parts ds =
 
 abbrev pub original_of : List ℕ → Option Original
 original_of ds = cond (length ds == 42 && all_decimal ds) (Some (parts ds)) None
+
+-- each part is below the power of ten of its digits
+pub record SizedOriginal (o : Original) : Type 0 where
+  pub mti : o.mti < 10000
+  pub trace : o.trace < 1000000
+  pub moment : o.moment < 10000000000
+  pub acquirer : o.acquirer < 100000000000
+  pub forwarder : o.forwarder < 100000000000

@@ -1,5 +1,6 @@
 -- How a fault is told: number, layer, element and place.
-use Rattle.std.specs.Prelude.{ℕ}
+use Rattle.std.specs.Prelude.{ℕ, List, ◌∷◌, ◌++◌, codes}
+use Rattle.std.specs.Fmt.{decimal}
 use Rattle.elements.specs.declared.fault.Layer.{Layer}
 use Rattle.elements.specs.declared.fault.Layer.TheVariants as layer
 use Rattle.elements.specs.declared.fault.Refusal.{Refusal}
@@ -36,3 +37,12 @@ turned_away Banks = told 15 layer.Switch 0 0
 turned_away Routes = told 16 layer.Switch 0 0
 turned_away Cutover = told 17 layer.Switch 0 0
 turned_away Reading = told 18 layer.Switch 0 0
+
+abbrev pub layer_text : Layer → List ℕ
+layer_text layer.Element = codes "element"
+layer_text layer.Message = codes "message"
+layer_text layer.Switch = codes "switch"
+
+-- a refusal as it is printed: its four parts, with a blank (32) between them
+abbrev pub refusal_text : Refusal → List ℕ
+refusal_text r = decimal r.number ++ 32 ∷ layer_text r.layer ++ 32 ∷ decimal r.element ++ 32 ∷ decimal r.place

@@ -1,8 +1,10 @@
 // What is wrong with a message, with a step of its writer, or with a call of the switch.
-ghost use Rattle.std.specs.Prelude.{◌≡◌};
-ghost use Rattle.elements.specs.Refusals.{refusal, turned_away};
+ghost use Rattle.std.specs.Prelude.{◌≡◌, Some};
+ghost use Rattle.elements.specs.Refusals.{refusal, turned_away, layer_text, refusal_text};
 ghost use Rattle.elements.specs.declared.fault.MessageFault.TheVariants.{Element};
 ghost use Rattle.elements.specs.declared.fault.SwitchFault.TheVariants.{Message};
+
+use std::fmt;
 
 // The part of the switch that a refusal comes from.
 #[derive(Clone, Copy, PartialEq, Eq, Debug)]
@@ -12,8 +14,8 @@ pub enum Layer {
     Switch,
 }
 
-// A refusal as it is told: its number, the layer that it comes from, the element that it is about (0 for none),
-// and a place in the message (0 where it has none).
+// A refusal as it is told and printed: its number, the layer that it comes from, the element that it is about, and a place in the
+// message. Where there is no element or no place, 0 is what is told, so it stands here as a number, as do the faults' own.
 #[derive(Clone, Copy, PartialEq, Eq, Debug)]
 pub struct Refusal {
     pub number: u8,
@@ -23,7 +25,7 @@ pub struct Refusal {
 }
 
 // A fault of one element.
-#[derive(Clone, Copy)]
+#[derive(Clone, Copy, PartialEq, Eq, Debug)]
 pub enum ElementFault {
     // The message ends inside the element.
     Truncated { element: u8, place: usize },
@@ -34,7 +36,7 @@ pub enum ElementFault {
 }
 
 // A fault of a message, or of a step of the writer.
-#[derive(Clone, Copy)]
+#[derive(Clone, Copy, PartialEq, Eq, Debug)]
 pub enum MessageFault {
     // The type is short, or not four digits.
     Mti { place: usize },
@@ -55,7 +57,7 @@ pub enum MessageFault {
 }
 
 // Why the switch turns a call away.
-#[derive(Clone, Copy)]
+#[derive(Clone, Copy, PartialEq, Eq, Debug)]
 pub enum SwitchFault {
     // The message is longer than any that the switch takes.
     Long,
@@ -87,11 +89,19 @@ impl From<ElementFault> for MessageFault {
     }
 }
 
-impl ElementFault {
-    pub fn refusal(&self) -> Refusal
-        ensures { result ≡ refusal (MessageFault.Element self.now) }
-    {
-        let (number, element, place) = match *self {
+impl From<MessageFault> for SwitchFault {
+    ghost from_gives = { λ m s. s ≡ Message m };
+
+    fn from(fault: MessageFault) -> SwitchFault {
+        SwitchFault::Message(fault)
+    }
+}
+
+impl From<ElementFault> for Refusal {
+    ghost from_gives = { λ e r. r ≡ refusal (Element e) };
+
+    fn from(fault: ElementFault) -> Refusal {
+        let (number, element, place) = match fault {
             ElementFault::Truncated { element, place } => (6, element, place),
             ElementFault::Length { element, place } => (7, element, place),
             ElementFault::Character { element, place } => (8, element, place),
@@ -105,12 +115,12 @@ impl ElementFault {
     }
 }
 
-impl MessageFault {
-    pub fn refusal(&self) -> Refusal
-        ensures { result ≡ refusal self.now }
-    {
-        let (number, element, place) = match *self {
-            MessageFault::Element(fault) => return fault.refusal(),
+impl From<MessageFault> for Refusal {
+    ghost from_gives = { λ m r. r ≡ refusal m };
+
+    fn from(fault: MessageFault) -> Refusal {
+        let (number, element, place) = match fault {
+            MessageFault::Element(fault) => return Refusal::from(fault),
             MessageFault::Mti { place } => (3, 0, place),
             MessageFault::Bitmap { place } => (4, 0, place),
             MessageFault::Unknown { element, place } => (5, element, place),
@@ -128,20 +138,12 @@ impl MessageFault {
     }
 }
 
-impl From<MessageFault> for SwitchFault {
-    ghost from_gives = { λ m s. s ≡ Message m };
+impl From<SwitchFault> for Refusal {
+    ghost from_gives = { λ s r. r ≡ turned_away s };
 
-    fn from(fault: MessageFault) -> SwitchFault {
-        SwitchFault::Message(fault)
-    }
-}
-
-impl SwitchFault {
-    pub fn refusal(&self) -> Refusal
-        ensures { result ≡ turned_away self.now }
-    {
-        let (number, element, place) = match *self {
-            SwitchFault::Message(fault) => return fault.refusal(),
+    fn from(fault: SwitchFault) -> Refusal {
+        let (number, element, place) = match fault {
+            SwitchFault::Message(fault) => return Refusal::from(fault),
             SwitchFault::Long => (1, 0, 0),
             SwitchFault::Buffer => (2, 0, 0),
             SwitchFault::Mti => (10, 0, 0),
@@ -158,5 +160,31 @@ impl SwitchFault {
             element,
             place,
         }
+    }
+}
+
+impl fmt::Display for Layer {
+    ghost output = { λ l. Some (layer_text l) };
+
+    fn fmt<W: fmt::Write>(&self, f: &mut fmt::Formatter<W>) -> fmt::Result {
+        f.write_str(match self {
+            Layer::Element => "element",
+            Layer::Message => "message",
+            Layer::Switch => "switch",
+        })
+    }
+}
+
+impl fmt::Display for Refusal {
+    ghost output = { λ r. Some (refusal_text r) };
+
+    fn fmt<W: fmt::Write>(&self, f: &mut fmt::Formatter<W>) -> fmt::Result {
+        let Refusal {
+            number,
+            layer,
+            element,
+            place,
+        } = *self;
+        write!(f, "{number} {layer} {element} {place}")
     }
 }

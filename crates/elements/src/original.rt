@@ -1,7 +1,6 @@
 // Element 90 of a reversal, taken apart: the message that it takes back.
-ghost use Rattle.std.specs.Prelude.{◌≡◌, ◌+◌, ◌<◌, ◌≤◌, true, false, length, take, MatchOption};
-ghost use Rattle.elements.specs.Numbers.{all_decimal};
-ghost use Rattle.elements.specs.Originals.{Written, original_of};
+ghost use Rattle.std.specs.Prelude.{◌≡◌, IfSome};
+ghost use Rattle.elements.specs.Originals.{original_of, SizedOriginal};
 
 use crate::number::number;
 
@@ -9,7 +8,7 @@ use crate::number::number;
 const DIGITS: usize = 42;
 
 // What element 90 tells of the original message, each part as the number that its digits write.
-#[derive(Clone, Copy)]
+#[derive(Clone, Copy, PartialEq, Eq, Debug)]
 pub struct Original {
     // The message's type: 4 digits.
     pub mti: u16,
@@ -23,28 +22,20 @@ pub struct Original {
     pub forwarder: u64,
 }
 
-// The number that the digits from one place up to another write. None where a byte there is no digit. The bytes before are known
-// to be digits: so read takes one part after the other, and in the end knows it of all.
-fn part(digits: &[u8], from: usize, to: usize) -> Option<u64>
-    requires { (from < to) × ((to ≤ from + 19) × ((to ≤ length digits.now) × (all_decimal (take from digits.now) ≡ true))) }
-    ensures { MatchOption result (all_decimal digits.now ≡ false) (λ n. Written digits.now from to n) }
-{
-    number(&digits[from..to])
-}
-
 impl Original {
     // Takes the 42 digits apart. None where there are more or fewer, or a byte is no digit.
     pub fn read(digits: &[u8]) -> Option<Original>
-        ensures { result ≡ original_of digits.now }
+        ensures value { result ≡ original_of digits.now }
+        ensures small { IfSome result SizedOriginal }
     {
         if digits.len() != DIGITS {
             return None;
         }
-        let mti = part(digits, 0, 4)?;
-        let trace = part(digits, 4, 10)?;
-        let moment = part(digits, 10, 20)?;
-        let acquirer = part(digits, 20, 31)?;
-        let forwarder = part(digits, 31, 42)?;
+        let mti = number(&digits[..4])?;
+        let trace = number(&digits[4..10])?;
+        let moment = number(&digits[10..20])?;
+        let acquirer = number(&digits[20..31])?;
+        let forwarder = number(&digits[31..42])?;
         Some(Original {
             mti: mti as u16,
             trace: trace as u32,

@@ -59,8 +59,8 @@ impl Format {
         ensures { result ≡ fits self c }
     {
         match self {
-            Format::Numeric => matches!(c, b'0'..=b'9'),
-            Format::Alphanumeric => matches!(c, b'0'..=b'9' | b'A'..=b'Z' | b'a'..=b'z'),
+            Format::Numeric => c.is_ascii_digit(),
+            Format::Alphanumeric => c.is_ascii_alphanumeric(),
             Format::Printable => matches!(c, b' '..=b'~'),
         }
     }
@@ -82,8 +82,8 @@ impl Length {
         ensures { result ≡ admits self n }
     {
         match self {
-            Length::Fixed(length) => n == length as usize,
-            Length::UpTo(limit) => 1 <= n && n <= limit as usize,
+            Length::Fixed(length) => n == usize::from(length),
+            Length::UpTo(limit) => 1 <= n && n <= usize::from(limit),
         }
     }
 }

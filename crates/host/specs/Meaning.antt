@@ -9,6 +9,7 @@ use Rattle.host.specs.declared.ask.PostAnswer.TheVariants as posting
 use Rattle.host.specs.declared.ask.ReverseAnswer.{ReverseAnswer}
 use Rattle.host.specs.declared.ask.ReverseAnswer.TheVariants as reversing
 use Rattle.host.specs.declared.line.Details.{Details}
+use Rattle.host.specs.declared.line.Key.{Key}
 use Rattle.host.specs.declared.line.Line.{Line}
 use Rattle.host.specs.declared.line.Line.TheVariants.{Absent, Posted, Adrift, Leaving, Closed}
 
@@ -77,29 +78,29 @@ abbrev pub forgotten : ForgetAnswer → Line → Line
 forgotten forgetting.NotNow l = l
 forgotten forgetting.Done l = Absent
 
--- all lines but that of a pair are as they were
-abbrev pub Elsewhere : Meaning → ℕ → ℕ → Meaning → Type 0
-Elsewhere m issuer number n = (i k : ℕ) → ((i ≡ issuer) × (k ≡ number) → ⊥) → n.lines i k ≡ m.lines i k
+-- all lines but that of a key are as they were
+abbrev pub Elsewhere : Meaning → Key → Meaning → Type 0
+Elsewhere m key n = (i k : ℕ) → ((i ≡ key.issuer) × (k ≡ key.number) → ⊥) → n.lines i k ≡ m.lines i k
 
-pub record Posts (m : Meaning) (issuer number : ℕ) (d : Details) (must_stand : Bool) (r : PostAnswer) (n : Meaning) : Type 0 where
-  pub here : Posting (m.lines issuer number) d r (n.lines issuer number)
-  pub elsewhere : Elsewhere m issuer number n
+pub record Posts (m : Meaning) (key : Key) (d : Details) (must_stand : Bool) (r : PostAnswer) (n : Meaning) : Type 0 where
+  pub here : Posting (m.lines key.issuer key.number) d r (n.lines key.issuer key.number)
+  pub elsewhere : Elsewhere m key n
   pub asks : n.asks ≡ counted m.asks
   pub turns : n.turns ≡ m.turns
-  pub latest : n.latest ≡ Some (Post issuer number d must_stand r)
+  pub latest : n.latest ≡ Some (Post key d must_stand r)
 
-pub record Reverses (m : Meaning) (issuer number : ℕ) (r : ReverseAnswer) (n : Meaning) : Type 0 where
-  pub here : n.lines issuer number ≡ reversed (m.lines issuer number) r
-  pub elsewhere : Elsewhere m issuer number n
+pub record Reverses (m : Meaning) (key : Key) (r : ReverseAnswer) (n : Meaning) : Type 0 where
+  pub here : n.lines key.issuer key.number ≡ reversed (m.lines key.issuer key.number) r
+  pub elsewhere : Elsewhere m key n
   pub asks : n.asks ≡ counted m.asks
   pub turns : n.turns ≡ m.turns
-  pub latest : n.latest ≡ Some (Reverse issuer number r)
+  pub latest : n.latest ≡ Some (Reverse key r)
 
 -- forget is decided by the meaning alone
-pub record Forgets (m : Meaning) (issuer number : ℕ) (r : ForgetAnswer) (n : Meaning) : Type 0 where
-  pub answer : r ≡ forgetting_answer (m.held issuer number) (m.lines issuer number)
-  pub here : n.lines issuer number ≡ forgotten r (m.lines issuer number)
-  pub elsewhere : Elsewhere m issuer number n
+pub record Forgets (m : Meaning) (key : Key) (r : ForgetAnswer) (n : Meaning) : Type 0 where
+  pub answer : r ≡ forgetting_answer (m.held key.issuer key.number) (m.lines key.issuer key.number)
+  pub here : n.lines key.issuer key.number ≡ forgotten r (m.lines key.issuer key.number)
+  pub elsewhere : Elsewhere m key n
   pub held : (i k : ℕ) → n.held i k ≡ m.held i k
   pub asks : n.asks ≡ m.asks
   pub turns : n.turns ≡ m.turns

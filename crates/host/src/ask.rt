@@ -1,5 +1,5 @@
 // What a host is asked, and what it answers.
-use crate::line::Details;
+use crate::line::{Details, Key};
 
 #[derive(Clone, Copy, PartialEq, Eq, Debug)]
 pub enum PostAnswer {
@@ -24,18 +24,16 @@ pub enum ForgetAnswer {
 }
 
 // An ask with its answer.
-#[derive(Clone, Copy)]
+#[derive(Clone, Copy, PartialEq, Eq, Debug)]
 pub enum Ask {
     Post {
-        issuer: u8,
-        number: u64,
+        key: Key,
         details: Details,
         must_stand: bool,
         answer: PostAnswer,
     },
     Reverse {
-        issuer: u8,
-        number: u64,
+        key: Key,
         answer: ReverseAnswer,
     },
 }

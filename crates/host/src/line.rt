@@ -1,7 +1,14 @@
 // The lines that a host keeps.
 
-// A card number: up to 19 digits and how many they are, so that leading zeros count.
+// What a line is kept under: the issuer, by its place among the banks, and the number of the transaction.
 #[derive(Clone, Copy, PartialEq, Eq, Debug)]
+pub struct Key {
+    pub issuer: u8,
+    pub number: u64,
+}
+
+// A card number: up to 19 digits and how many they are, so that leading zeros count.
+#[derive(Clone, Copy, Default, PartialEq, Eq, Debug)]
 pub struct Card {
     pub digits: u64,
     pub count: u8,
@@ -22,7 +29,7 @@ pub struct Details {
     pub amount: u64,
 }
 
-// What a host knows of an issuer and a number.
+// What a host knows of a key.
 #[derive(Clone, Copy, PartialEq, Eq, Debug)]
 pub enum Line {
     // nothing

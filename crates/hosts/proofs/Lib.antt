@@ -1,2 +1,0 @@
-pub mod Bottoms
-pub mod Kept

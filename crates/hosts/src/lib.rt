@@ -2,5 +2,3 @@
 #![tactic(auto)]
 
 pub mod limit;
-mod lines;
-mod table;

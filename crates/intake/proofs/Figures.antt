@@ -1,44 +1,22 @@
--- Digits that are known to be some, and the size of the number that they write.
-use Rattle.std.proofs.Common.{◌≡◌, ℕ, ◌+◌, ◌-◌, ◌^◌, ◌<◌, ◌≤◌, true, false, eqb, leb, List, [], ◌∷◌, length, take, Some, None, Option, sym, refl, ap, ◌∙◌, subst, ⊎_elim, arith, lit<, MatchOption}
+-- Elements that the table has made of digits.
+use Rattle.std.proofs.Common.{◌≡◌, ℕ, ◌^◌, ◌<◌, ◌≤◌, true, false, eqb, leb, List, [], ◌∷◌, length, Some, sym, refl, ◌∙◌, subst, ⊎_elim, arith, lit<}
 use native.Mathlib.Nat.{pow-le-pow_right}
-use Rattle.std.specs.List.{between}
 use Rattle.std.specs.Str.Parse.{digits_value}
-use Rattle.std.proofs.lemmas.List.{take_all}
 use Rattle.std.proofs.lemmas.Bool.{and_parts, and_from, le-leb, leb-true, eqb-true, eq-eqb, cond-true, cond-false, cases_Bool, both_ways}
 use Rattle.elements.specs.Numbers.{all_decimal, number_of}
-use Rattle.elements.specs.Originals.{Written, parts, original_of}
+use Rattle.elements.specs.Originals.{parts, original_of}
 use Rattle.elements.specs.declared.table.Format.{Format}
 use Rattle.elements.specs.declared.table.Format.TheVariants.{Numeric, Alphanumeric, Printable}
 use Rattle.elements.specs.declared.table.Length.{Length}
 use Rattle.elements.specs.declared.table.Length.TheVariants.{Fixed, UpTo}
 use Rattle.elements.specs.declared.table.Row.{Row}
 use Rattle.elements.specs.Table.{table, within, decimal, fits, admits}
-use Rattle.elements.proofs.Fractions.{part_is}
 use Rattle.intake.specs.Conforms.{every, conforms, most, numeric, is_figure, figures, row_of}
-use Rattle.intake.specs.Sizes.{SizedOriginal}
 
 -- 1 to 19 digits are a number
 pub digits_number : (ds : List ℕ) → 1 ≤ length ds → length ds ≤ 19 → all_decimal ds ≡ true → number_of ds ≡ Some (digits_value 10 ds)
 digits_number ds low high d =
     cond-true _ _ _ (and_from (within 1 19 (length ds)) (all_decimal ds) (and_from _ _ (le-leb 1 (length ds) low) (le-leb (length ds) 19 high)) d)
-
--- a part of digits is written by its own
-part_written : (ds : List ℕ) (from to : ℕ) (o : Option ℕ) → all_decimal ds ≡ true → MatchOption o (all_decimal ds ≡ false) (λ n. Written ds from to n) → (digits_value 10 (between from to ds) < 10 ^ (to - from)) × (all_decimal (take to ds) ≡ true)
-part_written ds from to None d w = absurd (both_ways (all_decimal ds) w d)
-part_written ds from to (Some n) d w = let s = w.sum in (subst (λ (v : ℕ). v < 10 ^ (to - from)) s w.small, w.before)
-
--- a part of at most 19 digits, and all before it
-part_small : (ds : List ℕ) (from to : ℕ) → all_decimal ds ≡ true → from < to → to ≤ from + 19 → to ≤ length ds → all_decimal (take from ds) ≡ true → (digits_value 10 (between from to ds) < 10 ^ (to - from)) × (all_decimal (take to ds) ≡ true)
-part_small ds from to d l h i before = part_written ds from to (number_of (between from to ds)) d (part_is ds from to l h i before)
-
-pub digits_small : (ds : List ℕ) → 1 ≤ length ds → length ds ≤ 19 → all_decimal ds ≡ true → digits_value 10 ds < 10 ^ length ds
-digits_small ds low high d =
-    let n = length ds in
-    let p = (part_small ds 0 n d (omega arith) (omega arith) (omega arith) refl).0 in
-    let z : n - 0 ≡ n = omega arith in
-    let e : between 0 n ds ≡ ds = ap (λ m. take m ds) z ∙ take_all n ds (omega arith) in
-    let P : ℕ → List ℕ → Type 0 = λ m l. digits_value 10 l < 10 ^ m in
-    subst (λ l. P n l) e (subst (λ m. P m (between 0 n ds)) z p)
 
 -- what the table says of an element of digits
 pub record Figured (n : ℕ) (cs : List ℕ) : Type 0 where
@@ -94,12 +72,3 @@ original_digits cs h = let p = and_parts (eqb (length cs) 42) (every (fits Numer
 
 pub original_there : (cs : List ℕ) → length cs ≡ 42 → all_decimal cs ≡ true → original_of cs ≡ Some (parts cs)
 original_there cs l d = cond-true _ _ _ (and_from _ _ (eq-eqb (length cs) 42 l) d)
-
-pub original_small : (cs : List ℕ) → length cs ≡ 42 → all_decimal cs ≡ true → SizedOriginal (parts cs)
-original_small cs l d =
-    let mti = part_small cs 0 4 d (omega arith) (omega arith) (omega arith) refl in
-    let trace = part_small cs 4 10 d (omega arith) (omega arith) (omega arith) mti.1 in
-    let moment = part_small cs 10 20 d (omega arith) (omega arith) (omega arith) trace.1 in
-    let acquirer = part_small cs 20 31 d (omega arith) (omega arith) (omega arith) moment.1 in
-    let forwarder = part_small cs 31 42 d (omega arith) (omega arith) (omega arith) acquirer.1 in
-    record { mti = mti.0; trace = trace.0; moment = moment.0; acquirer = acquirer.0; forwarder = forwarder.0 }

@@ -1,31 +1,25 @@
--- Of elements that are required, the first that is missing.
-use Rattle.std.proofs.Common.{◌≡◌, ℕ, ◌+◌, ◌<◌, ◌≤◌, true, false, cond, List, length, get_or, drop, is_some, Some, None, ap, ◌∙◌}
-use mathlib.Core.Logic.{∥∥₁_elim}
-use base.Stored.{coded_bool}
-use denote.Struct.Props.{≡_prop}
-use Rattle.std.proofs.lemmas.List.{drop_more, drop_all}
-use Rattle.std.proofs.lemmas.Bool.{cond-true, cond-false}
-use Rattle.iso8583.specs.declared.found.Found.{Found}
+-- An element that is required: what is read of it, or that it is missing.
+use Rattle.std.proofs.Common.{ℕ, is_some, Some, None, Option, sym, refl, ap, ◌∙◌, arith}
+use Rattle.std.specs.Option.{ok_or}
+use Rattle.elements.specs.declared.fault.SwitchFault.TheVariants.{Missing}
+use Rattle.elements.specs.Table.{table}
+use Rattle.iso8583.specs.declared.message.Element.{Element}
 use Rattle.iso8583.specs.declared.message.Message.{Message}
-use Rattle.iso8583.specs.Messages.{found_of, present}
-use Rattle.iso8583.proofs.Presence.{taken_apart, found_present}
-use Rattle.intake.specs.Conforms.{has}
-use Rattle.intake.specs.Orders.{elements_of, text_of, missing}
+use Rattle.iso8583.specs.Messages.{Handed}
+use Rattle.intake.specs.Conforms.{row_of, conforms, Stands, Required}
+use Rattle.intake.specs.Orders.{text_of, characters, first_place}
+use Rattle.intake.proofs.Founds.{found_conforms, found_behind}
 
--- an element was found exactly if the bitmap marks it
-pub has_present : (m : Message) (k : ℕ) → has m k ≡ present m k
-has_present m k =
-    ∥∥₁_elim m.whole (≡_prop coded_bool _ _) (λ w. found_present (text_of m) m.layout.mti m.layout.bitmap (elements_of m) k (taken_apart _ _ _ _ w))
-
-module _ (es : List Found) (ks : List ℕ) (i : ℕ) where
-  opened : i < length ks → missing es (drop i ks) ≡ cond (is_some (found_of es (get_or ks i 0))) (missing es (drop (i + 1) ks)) (Some (get_or ks i 0))
-  opened l = ap (missing es) (drop_more ks i 0 l)
-
-  pub missing_more : i < length ks → is_some (found_of es (get_or ks i 0)) ≡ true → missing es (drop i ks) ≡ missing es (drop (i + 1) ks)
-  missing_more l t = opened l ∙ cond-true _ _ _ t
-
-  pub missing_here : i < length ks → is_some (found_of es (get_or ks i 0)) ≡ false → missing es (drop i ks) ≡ Some (get_or ks i 0)
-  missing_here l f = opened l ∙ cond-false _ _ _ f
-
-  pub missing_none : length ks ≤ i → missing es (drop i ks) ≡ None
-  missing_none l = ap (missing es) (drop_all i ks l)
+module _ (m : Message) (k : ℕ) where
+  -- an element that is handed out stands in the message; where none is, it is missing
+  pub handed_required : (o : Option Element) → Handed m k o → Required m k (Stands m k) (ok_or o (Missing k))
+  handed_required None h = (ap is_some h, refl)
+  handed_required (Some e) h = (
+    ap is_some h.here,
+    record {
+      chars = h.chars ∙ sym (ap (characters (text_of m)) h.here);
+      offset = h.offset ∙ sym (ap first_place h.here);
+      sound = ap (conforms (row_of table k)) h.chars ∙ found_conforms m k h.found h.here;
+      late = omega (arith, found_behind m k h.found h.here, h.offset);
+    },
+  )

@@ -1,6 +1,6 @@
 -- How large the numbers of an order can be.
-use Rattle.std.specs.Prelude.{ℕ, ◌^◌, ◌<◌, ◌≤◌, Some, None, Option}
-use Rattle.elements.specs.declared.original.Original.{Original}
+use Rattle.std.specs.Prelude.{◌^◌, ◌<◌, ◌≤◌}
+use Rattle.elements.specs.Originals.{SizedOriginal}
 use Rattle.host.specs.declared.line.Card.{Card}
 use Rattle.intake.specs.declared.order.Particulars.{Particulars}
 use Rattle.intake.specs.declared.order.Presentment.{Presentment}
@@ -8,14 +8,8 @@ use Rattle.intake.specs.declared.order.Reversal.{Reversal}
 use Rattle.intake.specs.declared.order.Order.{Order}
 use Rattle.intake.specs.declared.order.Order.TheVariants.{Presented, Reversed}
 
--- at most ten digits, if there is a moment
-abbrev pub TenDigits : Option ℕ → Type 0
-TenDigits None = Unit {0}
-TenDigits (Some n) = n < 10000000000
-
 pub record SizedParticulars (p : Particulars) : Type 0 where
   pub amount : p.amount < 1000000000000
-  pub moment : TenDigits p.moment
   pub trace : p.trace < 1000000
   pub acquirer : p.acquirer < 100000000000
 
@@ -28,13 +22,6 @@ pub record SizedPresentment (p : Presentment) : Type 0 where
   pub card : SizedCard p.card
   pub processing : p.processing < 1000000
   pub particulars : SizedParticulars p.particulars
-
-pub record SizedOriginal (o : Original) : Type 0 where
-  pub mti : o.mti < 10000
-  pub trace : o.trace < 1000000
-  pub moment : o.moment < 10000000000
-  pub acquirer : o.acquirer < 100000000000
-  pub forwarder : o.forwarder < 100000000000
 
 pub record SizedReversal (r : Reversal) : Type 0 where
   pub particulars : SizedParticulars r.particulars

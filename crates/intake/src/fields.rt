@@ -1,16 +1,15 @@
-// The elements of a message as numbers.
-ghost use Rattle.std.specs.Prelude.{◌≡◌, ◌-◌, ◌^◌, ◌<◌, ◌≤◌, true, [], ◌∷◌, length, None};
+// The elements of a message as numbers. Each is required: where the message does not have it, that is what is answered.
+ghost use Rattle.std.specs.Prelude.{◌≡◌, ◌^◌, ◌<◌, ◌≤◌, true, length, IfOk};
 ghost use Rattle.std.specs.Str.Parse.{digits_value};
 ghost use Rattle.elements.specs.Numbers.{all_decimal};
 ghost use Rattle.elements.specs.Moments.{moment_of};
-ghost use Rattle.elements.specs.Originals.{parts};
-ghost use Rattle.elements.specs.Table.{table};
-ghost use Rattle.iso8583.specs.Messages.{found_of};
-ghost use Rattle.intake.specs.Conforms.{row_of, conforms, figures, has, chars_in};
-ghost use Rattle.intake.specs.Orders.{text_of, elements_of, first_place, card_of, particulars_of, missing};
-ghost use Rattle.intake.specs.Sizes.{TenDigits, SizedCard, SizedOriginal, SizedParticulars};
+ghost use Rattle.elements.specs.Originals.{parts, SizedOriginal};
+ghost use Rattle.intake.specs.Conforms.{figures, chars_in, told, Stands, Required};
+ghost use Rattle.intake.specs.Orders.{text_of, elements_of, card_of};
+ghost use Rattle.intake.specs.Sizes.{SizedCard, SizedParticulars};
 
 use crate::order::Particulars;
+use elements::fault::SwitchFault;
 use elements::moment::Moment;
 use elements::number::number;
 use elements::original::Original;
@@ -20,15 +19,13 @@ use iso8583::message::{Element, Message};
 // How many length digits stand before an acquirer's code.
 const LENGTH_DIGITS: usize = 2;
 
-// An element that the message is known to have. It stands behind type and bitmap, so there is room before it.
-fn element<'a>(message: &Message<'a>, number: u8) -> Element<'a>
-    requires { has message.now number ≡ true }
-    ensures chars { result.chars.now ≡ chars_in message.now number }
-    ensures offset { result.offset ≡ first_place (found_of (elements_of message.now) number) }
-    ensures sound { conforms (row_of table number) result.chars.now ≡ true }
-    ensures late { 20 ≤ result.offset }
+// An element of the message. It stands behind type and bitmap, so there is room before it.
+fn element<'a>(message: &Message<'a>, number: u8) -> Result<Element<'a>, SwitchFault>
+    ensures { Required message.now number (Stands message.now number) result }
 {
-    message.element(number).unwrap()
+    message
+        .element(number)
+        .ok_or(SwitchFault::Missing { element: number })
 }
 
 // The number that 1 to 19 digits write.
@@ -41,77 +38,48 @@ fn digits(chars: &[u8]) -> u64
 }
 
 // An element that is a plain number.
-fn figure(message: &Message, number: u8) -> u64
-    requires there { has message.now number ≡ true }
-    requires numeric { 1 ≤ figures number }
-    ensures value { result ≡ digits_value 10 (chars_in message.now number) }
-    ensures small { result < 10 ^ figures number }
+pub(crate) fn figure(message: &Message, number: u8) -> Result<u64, SwitchFault>
+    requires { 1 ≤ figures number }
+    ensures { Required message.now number (λ n. (n ≡ digits_value 10 (chars_in message.now number)) × (n < 10 ^ figures number)) result }
 {
-    digits(element(message, number).chars)
-}
-
-// Element 3, the processing code.
-pub(crate) fn processing(message: &Message) -> u32
-    requires { has message.now 3 ≡ true }
-    ensures value { result ≡ digits_value 10 (chars_in message.now 3) }
-    ensures small { result < 1000000 }
-{
-    figure(message, 3) as u32
+    Ok(digits(element(message, number)?.chars))
 }
 
 // Element 2: the card's digits, and how many they are.
-pub(crate) fn card(message: &Message) -> Card
-    requires { has message.now 2 ≡ true }
-    ensures value { result ≡ card_of (chars_in message.now 2) }
-    ensures small { SizedCard result }
+pub(crate) fn card(message: &Message) -> Result<Card, SwitchFault>
+    ensures { Required message.now 2 (λ c. (c ≡ card_of (chars_in message.now 2)) × SizedCard c) result }
 {
-    let chars = element(message, 2).chars;
-    Card {
+    let chars = element(message, 2)?.chars;
+    Ok(Card {
         digits: digits(chars),
         count: chars.len() as u8,
-    }
+    })
 }
 
 // Element 7: a moment, if its digits are one.
-fn moment(message: &Message) -> Option<u64>
-    requires { has message.now 7 ≡ true }
-    ensures value { result ≡ moment_of (chars_in message.now 7) }
-    ensures small { TenDigits result }
+fn moment(message: &Message) -> Result<Option<Moment>, SwitchFault>
+    ensures { Required message.now 7 (λ m. m ≡ moment_of (chars_in message.now 7)) result }
 {
-    match Moment::read(element(message, 7).chars) {
-        Some(moment) => Some(moment.number()),
-        None => None,
-    }
+    Ok(Moment::read(element(message, 7)?.chars))
 }
 
 // Element 90, taken apart. A message that was read has 42 digits there.
-pub(crate) fn original(message: &Message) -> Original
-    requires { has message.now 90 ≡ true }
-    ensures value { result ≡ parts (chars_in message.now 90) }
-    ensures small { SizedOriginal result }
+pub(crate) fn original(message: &Message) -> Result<Original, SwitchFault>
+    ensures { Required message.now 90 (λ o. (o ≡ parts (chars_in message.now 90)) × SizedOriginal o) result }
 {
-    Original::read(element(message, 90).chars).unwrap()
-}
-
-// Where element 32 starts, with its length digits.
-fn acquirer_place(message: &Message) -> usize
-    requires { has message.now 32 ≡ true }
-    ensures { result ≡ first_place (found_of (elements_of message.now) 32) - 2 }
-{
-    element(message, 32).offset - LENGTH_DIGITS
+    Ok(Original::read(element(message, 90)?.chars).unwrap())
 }
 
 // What every message that the switch takes has to tell.
-pub(crate) fn particulars(message: &Message) -> Particulars
-    requires { missing (elements_of message.now) (4 ∷ 7 ∷ 11 ∷ 32 ∷ []) ≡ None }
-    ensures value { result ≡ particulars_of (text_of message.now) (elements_of message.now) }
-    ensures small { SizedParticulars result }
+pub(crate) fn particulars(message: &Message) -> Result<Particulars, SwitchFault>
+    ensures value { result ≡ told (text_of message.now) (elements_of message.now) }
+    ensures small { IfOk result SizedParticulars }
 {
-    Particulars {
-        amount: figure(message, 4),
-        moment: moment(message),
-        trace: figure(message, 11) as u32,
-        acquirer: figure(message, 32),
-        place: acquirer_place(message),
-    }
+    Ok(Particulars {
+        amount: figure(message, 4)?,
+        moment: moment(message)?,
+        trace: figure(message, 11)? as u32,
+        acquirer: figure(message, 32)?,
+        place: element(message, 32)?.offset - LENGTH_DIGITS,
+    })
 }

@@ -1,7 +1,6 @@
-// What the switch is asked for, in plain numbers.
-ghost use Rattle.std.specs.Prelude.{◌≡◌};
-ghost use Rattle.intake.specs.Orders.{told_by};
-
+// What the switch is asked for, in plain numbers. How large they can be is told by specs/Sizes where an order is made, and not by
+// ghost fields here: the rules build these records from the bytes, and would have to carry the proofs.
+use elements::moment::Moment;
 use elements::original::Original;
 use host::line::Card;
 use journal::entry::Kind;
@@ -18,8 +17,8 @@ pub enum Service {
 pub struct Particulars {
     // Element 4.
     pub amount: u64,
-    // Element 7: the number of a moment, or none where the digits are no moment.
-    pub moment: Option<u64>,
+    // Element 7, if its digits are a moment.
+    pub moment: Option<Moment>,
     // Element 11.
     pub trace: u32,
     // Element 32 as a number, whether or not a bank has it.
@@ -51,15 +50,4 @@ pub struct Reversal {
 pub enum Order {
     Presented(Presentment),
     Reversed(Reversal),
-}
-
-impl Order {
-    pub fn particulars(&self) -> Particulars
-        ensures { result ≡ told_by self.now }
-    {
-        match self {
-            Order::Presented(presentment) => presentment.particulars,
-            Order::Reversed(reversal) => reversal.particulars,
-        }
-    }
 }

@@ -2,13 +2,11 @@ pub mod Bits
 pub mod Digits
 pub mod Elements
 pub mod Firsts
-pub mod Numerals
 pub mod Outcomes
 pub mod Presence
 pub mod Steps
 pub mod Strangers
 pub mod Tiles
-pub mod Values
 pub mod Walks
 pub mod Wholes
 pub mod Wrong

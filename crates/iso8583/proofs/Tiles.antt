@@ -1,12 +1,13 @@
 -- The elements of a message that was read lie in it without gap.
-use Rattle.std.proofs.Common.{◌≡◌, ℕ, zero, suc, ◌+◌, ◌-◌, ◌<◌, ◌≤◌, true, List, [], ◌∷◌, length, get_or, drop, Ok, Err, Result, sym, refl, ap, ◌∙◌, subst, ⊎_elim, arith}
+use Rattle.std.proofs.Common.{◌≡◌, ℕ, ◌+◌, ◌-◌, ◌<◌, ◌≤◌, true, eqb, List, [], ◌∷◌, length, drop, Some, Ok, Err, Result, sym, refl, ap, ◌∙◌, subst, ⊎_elim, arith}
 use Rattle.std.proofs.lemmas.List.{length-append, length-drop, drop_at}
-use Rattle.std.proofs.lemmas.Bool.{cond-true, cond-false, eq-eqb, ne_eqb, cases_Bool}
+use Rattle.std.proofs.lemmas.Bool.{cond-true, cond-false, eq-eqb, eqb-true, ne_eqb, cases_Bool}
 use Rattle.elements.specs.declared.fault.ElementFault.{ElementFault}
 use Rattle.iso8583.specs.declared.found.Found.{Found}
 use Rattle.elements.specs.declared.table.Length.{Length}
 use Rattle.elements.specs.declared.table.Row.{Row}
 use Rattle.iso8583.specs.Bitmap.{marked}
+use Rattle.iso8583.specs.Messages.{found_of}
 use Rattle.iso8583.specs.Reading.{before, lifted, element_at, elements, body}
 use Rattle.elements.specs.Table.{table, lead}
 use Rattle.iso8583.specs.Tiled.{Tiled, lead_of}
@@ -94,8 +95,19 @@ reaches : (es : List Found) (at low end : ℕ) → Tiled at low es end → at �
 reaches [] at low end t = omega arith
 reaches (e ∷ es) at low end t = let r = reaches es e.end e.element end t.3 in omega (arith, t.1, t.2)
 
--- every element of a tiling lies inside
-pub inside : (es : List Found) (at low end i : ℕ) (d : Found) → Tiled at low es end → i < length es → ((get_or es i d).start ≤ (get_or es i d).end) × ((get_or es i d).end ≤ end)
-inside [] at low end i d t h = absurd (omega arith)
-inside (e ∷ es) at low end zero d t h = (t.2, reaches es e.end e.element end t.3)
-inside (e ∷ es) at low end (suc i) d t h = inside es e.end e.element end i d t.3 (omega arith)
+-- what is found in a tiling has its number, and lies inside
+pub record Inside (k end : ℕ) (f : Found) : Type 0 where
+  pub number : f.element ≡ k
+  pub forward : f.start ≤ f.end
+  pub within : f.end ≤ end
+
+pub inside : (es : List Found) (at low end k : ℕ) (f : Found) → Tiled at low es end → Some f ≡ found_of es k → Inside k end f
+inside [] at low end k f t h = absurd (let z : ◌≡◌ {A = ℕ} 0 1 = cc in omega arith)
+inside (e ∷ es) at low end k f t h =
+    ⊎_elim
+    (λ s.
+    let here : Some f ≡ Some e = h ∙ cond-true _ _ _ s in
+    let is : f ≡ e = cc in
+    subst (Inside k end) (sym is) (record { number = eqb-true e.element k s; forward = t.2; within = reaches es e.end e.element end t.3 }))
+    (λ n. inside es e.end e.element end k f t.3 (h ∙ cond-false _ _ _ n))
+    (cases_Bool (eqb e.element k))

@@ -1,10 +1,9 @@
 -- A walk over the rows of the table, and what it has found after i of them.
-use Rattle.std.proofs.Common.{◌≡◌, ℕ, ◌+◌, ◌-◌, ◌<◌, ◌≤◌, true, false, List, [], ◌∷◌, ◌++◌, length, get_or, take, drop, set, Ok, Err, Result, sym, refl, ap, ◌∙◌, subst, append_assoc, append-nil, arith}
-use Rattle.std.proofs.lemmas.List.{drop_more, drop_all, drop-drop, length-set, length-drop, length-append, take_more_set}
+use Rattle.std.proofs.Common.{◌≡◌, ℕ, ◌+◌, ◌-◌, ◌<◌, ◌≤◌, true, false, List, [], ◌∷◌, ◌++◌, length, get_or, drop, Ok, Err, Result, sym, refl, ap, ◌∙◌, subst, append_assoc, arith}
+use Rattle.std.proofs.lemmas.List.{drop_more, drop_all, drop-drop, length-drop, length-append, length_push}
 use Rattle.std.proofs.lemmas.Bool.{cond-true, cond-false}
-use Rattle.elements.specs.declared.fault.ElementFault.{ElementFault}
 use Rattle.elements.specs.declared.fault.MessageFault.{MessageFault}
-use Rattle.elements.specs.declared.fault.MessageFault.TheVariants.{Element, Trailing}
+use Rattle.elements.specs.declared.fault.MessageFault.TheVariants.{Trailing}
 use Rattle.iso8583.specs.declared.found.Found.{Found}
 use Rattle.iso8583.specs.Bitmap.{marked}
 use Rattle.iso8583.specs.Reading.{after, before, body, lifted, elements, sized}
@@ -28,30 +27,25 @@ prefixed_more es e (Err f) = refl
 abbrev pub rest_of : List ℕ → ℕ → ℕ → ℕ → Result (List Found) MessageFault
 rest_of bs bits i at = elements (drop i table) bits at (drop at bs)
 
-pub record Walking (bs : List ℕ) (bits i at count : ℕ) (found : List Found) : Type 0 where
+pub record Walking (bs : List ℕ) (bits i at : ℕ) (found : List Found) : Type 0 where
   pub inside : at ≤ length bs
-  pub few : count ≤ i
-  pub room : length found ≡ length table
-  pub so_far : elements table bits (body bits) (drop (body bits) bs) ≡ prefixed (take count found) (rest_of bs bits i at)
+  pub few : length found ≤ i
+  pub so_far : elements table bits (body bits) (drop (body bits) bs) ≡ prefixed found (rest_of bs bits i at)
 
 module _ (bs : List ℕ) (bits : ℕ) where
-  pub walk_starts : (found : List Found) → body bits ≤ length bs → length found ≡ length table → Walking bs bits 0 (body bits) 0 found
-  walk_starts found l r = record { inside = l; few = omega arith; room = r; so_far = sym (prefixed_none _) }
-
-  module _ (i at count : ℕ) (found : List Found) (w : Walking bs bits i at count found) where
+  module _ (i at : ℕ) (found : List Found) (w : Walking bs bits i at found) where
     opened : i < length table → rest_of bs bits i at ≡ elements (get_or table i blank ∷ drop (i + 1) table) bits at (drop at bs)
     opened h = ap (λ rs. elements rs bits at (drop at bs)) (drop_more table i blank h)
 
-    pub walk_passes : i < length table → marked bits (get_or table i blank).element ≡ false → Walking bs bits (i + 1) at count found
+    pub walk_passes : i < length table → marked bits (get_or table i blank).element ≡ false → Walking bs bits (i + 1) at found
     walk_passes h m =
         record {
           inside = w.inside;
           few = omega (arith, w.few);
-          room = w.room;
-          so_far = w.so_far ∙ ap (prefixed (take count found)) (opened h ∙ cond-false _ _ _ m);
+          so_far = w.so_far ∙ ap (prefixed found) (opened h ∙ cond-false _ _ _ m);
         }
 
-    pub walk_finds : (e : Found) → i < length table → marked bits (get_or table i blank).element ≡ true → sized (get_or table i blank).length (get_or table i blank) at (drop at bs) ≡ Ok e → Walking bs bits (i + 1) e.end (count + 1) (set found count e)
+    pub walk_finds : (e : Found) → i < length table → marked bits (get_or table i blank).element ≡ true → sized (get_or table i blank).length (get_or table i blank) at (drop at bs) ≡ Ok e → Walking bs bits (i + 1) e.end (found ++ e ∷ [])
     walk_finds e h m ok =
         let s = spelt (get_or table i blank).length (get_or table i blank) at (drop at bs) e ok in
         let whole = ap length s.whole ∙ length-append _ s.rest in
@@ -63,26 +57,16 @@ module _ (bs : List ℕ) (bits : ℕ) where
         ∙ ap (λ cs. before e (elements (drop (i + 1) table) bits e.end cs)) (drop-drop (e.end - at) at bs ∙ ap (λ k. drop k bs) back) in
         record {
           inside = omega (arith, s.ends, w.inside);
-          few = omega (arith, w.few);
-          room = length-set found count e ∙ w.room;
-          so_far = w.so_far ∙ ap (prefixed (take count found)) next ∙ prefixed_more (take count found) e _ ∙ ap (λ es. prefixed es (rest_of bs bits (i + 1) e.end)) (sym (take_more_set found count e (omega (arith, w.few, w.room))));
+          few = omega (arith, w.few, length_push found e);
+          so_far = w.so_far ∙ ap (prefixed found) next ∙ prefixed_more found e _;
         }
-
-    pub walk_fails : (f : ElementFault) → i < length table → marked bits (get_or table i blank).element ≡ true → sized (get_or table i blank).length (get_or table i blank) at (drop at bs) ≡ Err f → Walked bs bits (Err (Element f))
-    walk_fails f h m err =
-        w.so_far ∙ ap (prefixed (take count found)) (opened h ∙ cond-true _ _ _ m
-        ∙ ap (λ r. after (lifted r) (λ e. before e (elements (drop (i + 1) table) bits e.end (drop (e.end - at) (drop at bs))))) err)
 
     ended : length table ≤ i → rest_of bs bits i at ≡ elements [] bits at (drop at bs)
     ended h = ap (λ rs. elements rs bits at (drop at bs)) (drop_all i table h)
 
-    pub walk_ends : i ≡ length table → length bs ≤ at → Walked bs bits (Ok (found, count))
-    walk_ends h l =
-        (omega (arith, w.few, w.room), w.so_far ∙ ap (prefixed (take count found)) (ended (omega arith) ∙ ap (elements [] bits at) (drop_all at bs l)) ∙ ap (λ es. Ok es) (append-nil (take count found)))
-
     pub walk_trails : length table ≤ i → at < length bs → Walked bs bits (Err (Trailing at))
-    walk_trails h l = w.so_far ∙ ap (prefixed (take count found)) (ended h ∙ ap (elements [] bits at) (drop_more bs at 0 l))
+    walk_trails h l = w.so_far ∙ ap (prefixed found) (ended h ∙ ap (elements [] bits at) (drop_more bs at 0 l))
 
-pub walking_on : {bs : List ℕ} {bits i at at' count count' : ℕ} {found found' : List Found} → at' ≡ at → count' ≡ count → found' ≡ found → Walking bs bits i at count found → Walking bs bits i at' count' found'
-walking_on {bs} {bits} {i} {at} {at'} {count} {count'} {found} {found'} a c f w =
-    subst (λ x. Walking bs bits i x count' found') (sym a) (subst (λ x. Walking bs bits i at x found') (sym c) (subst (Walking bs bits i at count) (sym f) w))
+pub walking_on : {bs : List ℕ} {bits i at at' : ℕ} {found found' : List Found} → at' ≡ at → found' ≡ found → Walking bs bits i at found → Walking bs bits i at' found'
+walking_on {bs} {bits} {i} {at} {at'} {found} {found'} a f w =
+    subst (λ x. Walking bs bits i x found') (sym a) (subst (Walking bs bits i at) (sym f) w)

@@ -1,46 +1,9 @@
--- How a loop over characters finds the first wrong one.
-use Rattle.std.proofs.Common.{◌≡◌, ℕ, zero, suc, ◌+◌, ◌-◌, ◌<◌, ◌≤◌, Bool, true, false, cond, List, [], ◌∷◌, ◌++◌, length, get_or, take, drop, Some, None, Option, refl, ap, ◌∙◌, ⊎_elim, arith}
-use Rattle.std.proofs.lemmas.List.{drop_more, drop_all}
-use Rattle.std.proofs.lemmas.Bool.{cond-true, cond-false, cases_lt}
+-- The first wrong one of some characters.
+use Rattle.std.proofs.Common.{◌≡◌, ℕ, zero, suc, ◌+◌, ◌≤◌, Bool, true, false, cond, not, List, [], ◌∷◌, ◌++◌, length, take, Some, None, Option, refl, ap, ◌∙◌, arith}
+use Rattle.std.proofs.lemmas.Bool.{cond-true}
+use Rattle.std.specs.List.{position_from}
+use Rattle.std.specs.Option.{option_map}
 use Rattle.iso8583.specs.Reading.{wrong}
-
-module _ (good : ℕ → Bool) (n at : ℕ) (cs : List ℕ) where
-  -- what is left to look through after i characters
-  abbrev pub wrong_from : ℕ → Option ℕ
-  wrong_from i = wrong good (n - i) (at + i) (drop i cs)
-
-  pub wrong_none : wrong_from 0 ≡ wrong good n at cs
-  wrong_none =
-      let e : n - 0 ≡ n = omega arith in
-      let f : at + 0 ≡ at = omega arith in
-      λ i. wrong good (e i) (f i) cs
-
-  pub wrong_all : (i : ℕ) → n ≤ i → wrong_from i ≡ None
-  wrong_all i h =
-      let e : n - i ≡ 0 = omega arith in
-      ap (λ m. wrong good m (at + i) (drop i cs)) e
-
-  opened : (i : ℕ) → i < n → i < length cs → wrong_from i ≡ cond (good (get_or cs i 0)) (wrong good (n - (i + 1)) (at + i + 1) (drop (i + 1) cs)) (Some (at + i))
-  opened i h l =
-      let e : n - i ≡ suc (n - (i + 1)) = omega arith in
-      (λ j. wrong good (e j) (at + i) (drop_more cs i 0 l j))
-
-  pub wrong_more : (i : ℕ) → i < n → i < length cs → good (get_or cs i 0) ≡ true → wrong_from i ≡ wrong_from (i + 1)
-  wrong_more i h l g =
-      let f : at + i + 1 ≡ at + (i + 1) = omega arith in
-      opened i h l ∙ cond-true _ _ _ g ∙ ap (λ m. wrong good (n - (i + 1)) m (drop (i + 1) cs)) f
-
-  pub wrong_here : (i : ℕ) → i < n → i < length cs → good (get_or cs i 0) ≡ false → wrong_from i ≡ Some (at + i)
-  wrong_here i h l g = opened i h l ∙ cond-false _ _ _ g
-
-  pub wrong_missing : (i : ℕ) → i < n → length cs ≤ i → wrong_from i ≡ Some (at + i)
-  wrong_missing i h l =
-      let e : n - i ≡ suc (n - (i + 1)) = omega arith in
-      λ j. wrong good (e j) (at + i) (drop_all i cs l j)
-
-  -- at a place past the end `get_or` gives 0, which passes no test of characters
-  pub wrong_stops : (i : ℕ) → i < n → good (get_or cs i 0) ≡ false → wrong_from i ≡ Some (at + i)
-  wrong_stops i h g = ⊎_elim (λ l. wrong_here i h l g) (λ l. wrong_missing i h l) (cases_lt i (length cs))
 
 pub passed : {x : Option ℕ} (b : Bool) (i : ℕ) → cond b x (Some i) ≡ None → (b ≡ true) × (x ≡ None)
 passed true i h = (refl, h)
@@ -71,3 +34,18 @@ pub wrong_taken : (good : ℕ → Bool) (n i : ℕ) (cs : List ℕ) → n ≤ le
 wrong_taken good zero i cs l = refl
 wrong_taken good (suc n) i [] l = absurd (omega arith)
 wrong_taken good (suc n) i (c ∷ cs) l = ap (λ o. cond (good c) o (Some i)) (wrong_taken good n (i + 1) cs (omega arith))
+
+-- the first wrong character, by its place among them
+wrong_from : (good : ℕ → Bool) (at i : ℕ) (cs : List ℕ) → option_map (λ k. at + k) (position_from (λ c. not (good c)) i cs) ≡ wrong good (length cs) (at + i) cs
+wrong_from good at i [] = refl
+wrong_from good at i (c ∷ cs) =
+    let e : at + (i + 1) ≡ at + i + 1 = omega arith in
+    elim (good c) as (λ b. option_map (λ k. at + k) (cond (not b) (Some i) (position_from (λ x. not (good x)) (i + 1) cs)) ≡ cond b (wrong good (length cs) (at + i + 1) cs) (Some (at + i))) [
+      | true ↦ wrong_from good at (i + 1) cs ∙ ap (λ m. wrong good (length cs) m cs) e
+      | false ↦ refl
+    ]
+
+pub wrong_by_position : (good : ℕ → Bool) (at : ℕ) (cs : List ℕ) (o : Option ℕ) → o ≡ position_from (λ c. not (good c)) 0 cs → option_map (λ k. at + k) o ≡ wrong good (length cs) at cs
+wrong_by_position good at cs o h =
+    let e : at + 0 ≡ at = omega arith in
+    ap (λ x. option_map (λ k. at + k) x) h ∙ wrong_from good at 0 cs ∙ ap (λ m. wrong good (length cs) m cs) e

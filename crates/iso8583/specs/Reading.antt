@@ -1,5 +1,5 @@
 -- The format of a message: what a reader finds in its bytes, or the fault that it refuses them for.
-use Rattle.std.specs.Prelude.{ℕ, zero, suc, ◌+◌, ◌-◌, ◌*◌, ◌/◌, ◌%◌, ◌^◌, Bool, cond, ◌&&◌, List, [], ◌∷◌, length, take, drop, Some, None, Ok, Err, Option, Result, ◌==◌, nat_le}
+use Rattle.std.specs.Prelude.{ℕ, ◌+◌, ◌-◌, ◌*◌, ◌/◌, ◌%◌, ◌^◌, Bool, cond, ◌&&◌, List, [], ◌∷◌, length, take, drop, Some, None, Ok, Err, Option, Result, ◌==◌, nat_le}
 use Rattle.std.specs.Str.Parse.{digits_value}
 use Rattle.elements.specs.declared.fault.ElementFault.{ElementFault}
 use Rattle.elements.specs.declared.fault.ElementFault.TheVariants.{Truncated, Length, Character}
@@ -10,23 +10,13 @@ use Rattle.elements.specs.declared.table.Length.{Length as Lengths}
 use Rattle.elements.specs.declared.table.Length.TheVariants.{Fixed, UpTo}
 use Rattle.elements.specs.declared.table.Row.{Row}
 use Rattle.iso8583.specs.Bitmap.{marked, joined, first, strange}
+pub use Rattle.elements.specs.Numbers.{unless, wrong}
 use Rattle.elements.specs.Table.{table, decimal, hexadecimal, fits, admits}
 
 -- what comes after a step that may refuse
 abbrev pub after : {A B F : Type 0} → Result A F → (A → Result B F) → Result B F
 after (Ok a) next = next a
 after (Err f) next = Err f
-
--- an answer, unless something is wrong, at a place or with an element
-abbrev pub unless : {A F : Type 0} → Option ℕ → (ℕ → F) → A → Result A F
-unless None fault a = Ok a
-unless (Some i) fault a = Err (fault i)
-
--- of n characters from place i on, the place of the first that is missing or does not pass a test
-abbrev pub wrong : (ℕ → Bool) → ℕ → ℕ → List ℕ → Option ℕ
-wrong good zero i cs = None
-wrong good (suc n) i [] = Some i
-wrong good (suc n) i (c ∷ cs) = cond (good c) (wrong good n (i + 1) cs) (Some i)
 
 -- the type: four digits (3)
 abbrev pub mti_of : List ℕ → Result ℕ MessageFault

@@ -64,7 +64,7 @@ pub(crate) fn known_marks(bitmap: u128) -> Result<u128, MessageFault>
     let strange = bitmap & !known_bits();
     if strange != 0 {
         let element = strange.leading_zeros() as u8 + 1;
-        let place = 4 + (element as usize - 1) / 4;
+        let place = 4 + usize::from(element - 1) / 4;
         return Err(MessageFault::Unknown { element, place });
     }
     if second_is_empty(bitmap) {

@@ -7,25 +7,23 @@ use std::test::Fail;
 pub(crate) const QUESTION: &[u8] =
     b"02007220000100000000165000000000000001000000000000002500010510150000000103111";
 
-// A refusal is told as number, layer, element and place. `case` says which one of many it is that fails.
+// A refusal by its number, its layer, the element that it is about and its place.
+pub(crate) fn told(number: u8, layer: Layer, element: u8, place: usize) -> Refusal {
+    Refusal {
+        number,
+        layer,
+        element,
+        place,
+    }
+}
+
+// A fault is told as this refusal. `case` says which one of many it is that fails.
 pub(crate) fn check_told(
     rt: &impl Abort,
     case: usize,
     fault: MessageFault,
-    number: u8,
-    layer: Layer,
-    element: u8,
-    place: usize,
+    refusal: Refusal,
 ) -> Result<(), Fail> {
-    assert_eq!(rt;
-        fault.refusal(),
-        Refusal {
-            number,
-            layer,
-            element,
-            place,
-        },
-        "case {case}"
-    );
+    assert_eq!(rt; Refusal::from(fault), refusal, "case {case}");
     Ok(())
 }

@@ -1,4 +1,3 @@
-pub mod Joins
 pub mod Seeks
 pub mod Stores
 pub mod Tallies

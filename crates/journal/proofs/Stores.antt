@@ -1,7 +1,7 @@
 -- What a write at one place does to the whole row.
-use Rattle.std.proofs.Common.{◌≡◌, ℕ, zero, suc, ◌<◌, cond, eqb, [], ◌∷◌, length, get_or, set, Some, None, Option, sym, refl, ap, ◌∙◌, subst, ⊎_elim, arith}
+use Rattle.std.proofs.Common.{◌≡◌, ℕ, zero, suc, ◌<◌, [], ◌∷◌, length, get_or, set, Some, None, Option, sym, refl, ◌∙◌, ⊎_elim, arith}
 use Rattle.journal.specs.declared.entry.Entry.{Entry}
-use Rattle.journal.specs.Places.{Places, seek, Apart, one_on, lowest_free, Numbered, MayHold}
+use Rattle.journal.specs.Places.{Places, seek, Apart, lowest_free, Numbered, MayHold}
 use Rattle.journal.proofs.Seeks.{seek_here, seek_past, not_found, seek_at}
 
 -- e is stored: its number finds it, every other number finds what it found, and no number stands twice
@@ -18,7 +18,7 @@ past_taken : (x : Entry) {ps : Places} {e : Entry} {qs : Places} → (x.number �
 past_taken x {ps} {e} {qs} other alone s =
     record {
       here = seek_past x qs e.number other ∙ s.here;
-      others = λ n ne. ap (λ (o : Option Entry). cond (eqb x.number n) (Some x) o) (s.others n ne);
+      others = λ n ne. let behind = s.others n ne in grind arith;
       apart = (s.others x.number (λ same. other (sym same)) ∙ alone, s.apart);
     }
 
@@ -31,7 +31,7 @@ in_front p ps e alone apart same =
 pub stored_free : (ps : Places) (i : ℕ) (e : Entry) → i < length ps → get_or ps i None ≡ None → seek ps e.number ≡ None → Apart ps → Stored ps e (set ps i (Some e))
 stored_free [] i e lt there none apart = absurd (omega arith)
 stored_free (None ∷ ps) zero e lt there none apart = in_front None ps e none apart (λ n other. refl)
-stored_free (Some x ∷ ps) zero e lt there none apart = let z : ◌≡◌ {A = ℕ} 0 1 = cc in absurd (omega arith)
+stored_free (Some x ∷ ps) zero e lt there none apart = absurd (cc)
 stored_free (None ∷ ps) (suc i) e lt there none apart = past_free (stored_free ps i e (omega arith) there none apart)
 stored_free (Some x ∷ ps) (suc i) e lt there none apart =
     let behind = not_found x ps e.number none in
@@ -43,47 +43,34 @@ pub record IsFree (ps : Places) (i : ℕ) : Type 0 where
   pub there : get_or ps i None ≡ None
 
 pub lowest_is_free : (ps : Places) (i : ℕ) → lowest_free ps ≡ Some i → IsFree ps i
-lowest_is_free [] i is = let z : ◌≡◌ {A = ℕ} 0 1 = cc in absurd (omega arith)
-lowest_is_free (None ∷ ps) i is =
-    let zero_is : ◌≡◌ {A = ℕ} 0 i = cc in
-    subst (λ (k : ℕ). IsFree (None ∷ ps) k) zero_is (record { inside = omega arith; there = refl })
-lowest_is_free (Some x ∷ ps) i is = behind (lowest_free ps) i is (λ j was. lowest_is_free ps j was)
-  where
-    behind : (o : Option ℕ) (i : ℕ) → one_on o ≡ Some i → ((j : ℕ) → o ≡ Some j → IsFree ps j) → IsFree (Some x ∷ ps) i
-    behind None i is rest = let z : ◌≡◌ {A = ℕ} 0 1 = cc in absurd (omega arith)
-    behind (Some j) zero is rest = let z : ◌≡◌ {A = ℕ} (suc j) 0 = cc in absurd (omega arith)
-    behind (Some j) (suc i) is rest =
-        let j-is : j ≡ i = cc in
-        let f = rest i (ap Some j-is) in
-        record { inside = omega (arith, f.inside); there = f.there }
+lowest_is_free [] i is = absurd (cc)
+lowest_is_free (None ∷ ps) i is = record { inside = grind arith; there = grind arith }
+lowest_is_free (Some x ∷ ps) zero is = grind arith
+lowest_is_free (Some x ∷ ps) (suc i) is =
+    let f = lowest_is_free ps i (grind arith) in record { inside = omega (arith, f.inside); there = f.there }
 
 pub stored_new : (ps : Places) (i : ℕ) (e : Entry) → lowest_free ps ≡ Some i → seek ps e.number ≡ None → Apart ps → Stored ps e (set ps i (Some e))
 stored_new ps i e lowest none apart = let f = lowest_is_free ps i lowest in stored_free ps i e f.inside f.there none apart
 
 -- an entry over one of the same number
 pub stored_over : (ps : Places) (i : ℕ) (x e : Entry) → Apart ps → get_or ps i None ≡ Some x → x.number ≡ e.number → Stored ps e (set ps i (Some e))
-stored_over [] i x e apart there same = let z : ◌≡◌ {A = ℕ} 0 1 = cc in absurd (omega arith)
-stored_over (None ∷ ps) zero x e apart there same = let z : ◌≡◌ {A = ℕ} 0 1 = cc in absurd (omega arith)
+stored_over [] i x e apart there same = absurd (cc)
+stored_over (None ∷ ps) zero x e apart there same = absurd (cc)
 stored_over (None ∷ ps) (suc i) x e apart there same = past_free (stored_over ps i x e apart there same)
 stored_over (Some y ∷ ps) zero x e apart there same =
-    let y-is : y ≡ x = cc in
-    let number : y.number ≡ e.number = ap (λ (z : Entry). z.number) y-is ∙ same in
-    in_front (Some y) ps e (subst (λ (n : ℕ). seek ps n ≡ None) number apart.0) apart.1 (λ n other. seek_past y ps n (λ eq. other (sym number ∙ eq)))
+    let alone = apart.0 in in_front (Some y) ps e (grind arith) apart.1 (λ n other. grind arith)
 stored_over (Some y ∷ ps) (suc i) x e apart there same =
     let found = seek_at ps i x apart.1 there in
-    let other : y.number ≡ e.number → ⊥ = λ eq.
-    let none : seek ps x.number ≡ None = subst (λ (n : ℕ). seek ps n ≡ None) (eq ∙ sym same) apart.0 in
-    let z : ◌≡◌ {A = ℕ} 0 1 = cc in omega arith in
-    past_taken y other apart.0 (stored_over ps i x e apart.1 there same)
+    let alone = apart.0 in
+    past_taken y (grind arith) apart.0 (stored_over ps i x e apart.1 there same)
 
 -- a place that is cleared: no other number loses its entry, and none stands twice
 pub seek_cleared : (ps : Places) (i n : ℕ) → seek ps n ≡ None → seek (set ps i None) n ≡ None
 seek_cleared [] i n none = none
 seek_cleared (None ∷ ps) zero n none = none
-seek_cleared (Some x ∷ ps) zero n none = (not_found x ps n none).1
+seek_cleared (Some x ∷ ps) zero n none = grind arith
 seek_cleared (None ∷ ps) (suc i) n none = seek_cleared ps i n none
-seek_cleared (Some x ∷ ps) (suc i) n none =
-    let behind = not_found x ps n none in seek_past x (set ps i None) n behind.0 ∙ seek_cleared ps i n behind.1
+seek_cleared (Some x ∷ ps) (suc i) n none = let behind = seek_cleared ps i n in grind arith
 
 pub apart_cleared : (ps : Places) (i : ℕ) → Apart ps → Apart (set ps i None)
 apart_cleared [] i apart = tt
@@ -95,24 +82,19 @@ apart_cleared (Some x ∷ ps) (suc i) apart = (seek_cleared ps i x.number apart.
 pub cleared_others : (ps : Places) (i : ℕ) (e : Entry) → get_or ps i None ≡ Some e → (n : ℕ) → (e.number ≡ n → ⊥) → seek (set ps i None) n ≡ seek ps n
 cleared_others [] i e there n other = refl
 cleared_others (None ∷ ps) zero e there n other = refl
-cleared_others (Some x ∷ ps) zero e there n other =
-    let x-is : x ≡ e = cc in sym (seek_past x ps n (λ eq. other (sym (ap (λ (z : Entry). z.number) x-is) ∙ eq)))
+cleared_others (Some x ∷ ps) zero e there n other = grind arith
 cleared_others (None ∷ ps) (suc i) e there n other = cleared_others ps i e there n other
-cleared_others (Some x ∷ ps) (suc i) e there n other =
-    ap (λ (o : Option Entry). cond (eqb x.number n) (Some x) o) (cleared_others ps i e there n other)
+cleared_others (Some x ∷ ps) (suc i) e there n other = let behind = cleared_others ps i e there n other in grind arith
 
 pub cleared_here : (ps : Places) (i : ℕ) (e : Entry) → Apart ps → get_or ps i None ≡ Some e → seek (set ps i None) e.number ≡ None
 cleared_here [] i e apart there = refl
-cleared_here (None ∷ ps) zero e apart there = let z : ◌≡◌ {A = ℕ} 0 1 = cc in absurd (omega arith)
-cleared_here (Some x ∷ ps) zero e apart there =
-    let x-is : x ≡ e = cc in subst (λ (n : ℕ). seek ps n ≡ None) (ap (λ (z : Entry). z.number) x-is) apart.0
+cleared_here (None ∷ ps) zero e apart there = absurd (cc)
+cleared_here (Some x ∷ ps) zero e apart there = let alone = apart.0 in grind arith
 cleared_here (None ∷ ps) (suc i) e apart there = cleared_here ps i e apart there
 cleared_here (Some x ∷ ps) (suc i) e apart there =
     let found = seek_at ps i e apart.1 there in
-    let other : x.number ≡ e.number → ⊥ = λ same.
-    let none : seek ps e.number ≡ None = subst (λ (n : ℕ). seek ps n ≡ None) same apart.0 in
-    let z : ◌≡◌ {A = ℕ} 0 1 = cc in omega arith in
-    seek_past x (set ps i None) e.number other ∙ cleared_here ps i e apart.1 there
+    let behind = cleared_here ps i e apart.1 there in
+    let alone = apart.0 in grind arith
 
 -- a number that is nowhere else may be written at any place
 apart_fresh : (ps : Places) (i : ℕ) (e : Entry) → Apart ps → seek ps e.number ≡ None → Apart (set ps i (Some e))
@@ -126,11 +108,10 @@ apart_fresh (Some x ∷ ps) (suc i) e apart none =
   where
     unfound : (ps : Places) (i : ℕ) (e : Entry) (n : ℕ) → seek ps n ≡ None → (e.number ≡ n → ⊥) → seek (set ps i (Some e)) n ≡ None
     unfound [] i e n none other = none
-    unfound (None ∷ ps) zero e n none other = seek_past e ps n other ∙ none
-    unfound (Some x ∷ ps) zero e n none other = seek_past e ps n other ∙ (not_found x ps n none).1
+    unfound (None ∷ ps) zero e n none other = grind arith
+    unfound (Some x ∷ ps) zero e n none other = grind arith
     unfound (None ∷ ps) (suc i) e n none other = unfound ps i e n none other
-    unfound (Some x ∷ ps) (suc i) e n none other =
-        let behind = not_found x ps n none in seek_past x (set ps i (Some e)) n behind.0 ∙ unfound ps i e n behind.1 other
+    unfound (Some x ∷ ps) (suc i) e n none other = let behind = unfound ps i e n in grind arith
 
 numbered_entry : (p : Option Entry) (n : ℕ) → Numbered p n → (x : Entry) × (p ≡ Some x) × (x.number ≡ n)
 numbered_entry None n h = absurd h

@@ -1,8 +1,9 @@
 -- Sums over the places, and the least moment.
-use Rattle.std.proofs.Common.{◌≡◌, ℕ, zero, suc, ◌+◌, ◌<◌, ◌≤◌, Bool, true, false, [], ◌∷◌, length, get_or, drop, set, replicate, Some, None, Option, refl, ap, arith}
-use Rattle.std.proofs.lemmas.List.{drop_more}
+use Rattle.std.proofs.Common.{◌≡◌, ℕ, List, min, zero, suc, ◌+◌, ◌<◌, ◌≤◌, Bool, true, false, [], ◌∷◌, length, get_or, set, replicate, Some, None, Option, refl, ap, ◌∙◌, arith}
 use Rattle.journal.specs.declared.entry.Entry.{Entry}
-use Rattle.journal.specs.Places.{Places, lowest_free, lesser, open_moment, least_unsettled, tally, one_if, as_taken, as_undone, taken, undone}
+use Rattle.std.proofs.lemmas.List.Sums.{sum_by-cons}
+use Rattle.std.specs.List.{count_by, fold, reduce, filter_map, cons_option}
+use Rattle.journal.specs.Places.{Places, lowest_free, lesser, is_open, as_unsettled, open_moment, least_unsettled, tally, one_if, as_taken, as_undone, taken, undone}
 use Rattle.journal.proofs.Stores.{lowest_is_free}
 
 -- a write takes one place's share out of a sum, and puts another in
@@ -60,20 +61,20 @@ pub undone_over : (ps : Places) (i : ℕ) (x e : Entry) → i < length ps → ge
 undone_over ps i x e lt there =
     let was = ap as_undone there in let moved = tally-set as_undone ps i (Some e) lt in omega arith
 
--- a pass over the places: what is left of a sum from one place on
-pub tally_from : (weight : Option Entry → ℕ) (ps : Places) (i : ℕ) → i < length ps → tally weight (drop i ps) ≡ weight (get_or ps i None) + tally weight (drop (i + 1) ps)
-tally_from weight ps i lt = rw (drop_more ps i None lt)
+-- as the library counts the open places, and finds the least moment
+pub open_counted : (ps : Places) → count_by is_open ps ≡ tally as_unsettled ps
+open_counted [] = refl
+open_counted (p ∷ ps) = let rest = open_counted ps in simp sum_by-cons (grind arith)
 
--- the least moment, in any grouping
-pub lesser_none : (a : Option ℕ) → lesser a None ≡ a
-lesser_none None = refl
-lesser_none (Some m) = refl
+min_fold : (m n : ℕ) (ns : List ℕ) → fold min (min m n) ns ≡ min m (fold min n ns)
+min_fold m n [] = refl
+min_fold m n (k ∷ ns) = let e : min (min m n) k ≡ min m (min n k) = omega arith in rw e (min_fold m (min n k) ns)
 
-pub lesser_lesser : (a b c : Option ℕ) → lesser (lesser a b) c ≡ lesser a (lesser b c)
-lesser_lesser None b c = refl
-lesser_lesser (Some m) None c = refl
-lesser_lesser (Some m) (Some n) None = refl
-lesser_lesser (Some m) (Some n) (Some k) = ap Some (omega arith)
+least_more : (o : Option ℕ) (ns : List ℕ) → reduce min (cons_option o ns) ≡ lesser o (reduce min ns)
+least_more None ns = refl
+least_more (Some m) [] = refl
+least_more (Some m) (n ∷ ns) = ap Some (min_fold m n ns)
 
-pub least_from : (ps : Places) (i : ℕ) → i < length ps → least_unsettled (drop i ps) ≡ lesser (open_moment (get_or ps i None)) (least_unsettled (drop (i + 1) ps))
-least_from ps i lt = rw (drop_more ps i None lt)
+pub least_is : (ps : Places) → reduce min (filter_map open_moment ps) ≡ least_unsettled ps
+least_is [] = refl
+least_is (p ∷ ps) = least_more (open_moment p) (filter_map open_moment ps) ∙ ap (lesser (open_moment p)) (least_is ps)

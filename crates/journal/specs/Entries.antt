@@ -1,6 +1,7 @@
 -- What an entry says, and what a repeat or a reversal makes of it.
 use Rattle.std.specs.Prelude.{ℕ, ◌/◌, Bool, true, false, cond, ◌&&◌, ◌==◌, nat_lt}
 use Rattle.host.specs.declared.line.Details.{Details}
+use Rattle.host.specs.declared.line.Key.{Key}
 use Rattle.host.specs.declared.line.Side.{Side}
 use Rattle.host.specs.declared.line.Side.TheVariants.{Debit, Credit}
 use Rattle.journal.specs.declared.entry.Effect.{Effect}
@@ -32,6 +33,10 @@ unsettled Owed = true
 unsettled Reversed = false
 unsettled Barred = false
 
+-- what the entry's line is kept under
+abbrev pub key_of : Entry → Key
+key_of e = record { issuer = e.issuer; number = e.number }
+
 -- owed or reversed
 abbrev pub undone : State → Bool
 undone Waiting = false
@@ -50,23 +55,24 @@ abbrev pub details_of : Terms → Details
 details_of x = record { card = x.card; side = side_of x.processing; amount = x.amount }
 
 abbrev pub details : Entry → Details
-details e = record { card = e.card; side = side_of e.processing; amount = e.amount }
+details e = details_of e.terms
 
 -- a number alone
 abbrev pub barred : ℕ → Entry
-barred n = record { number = n; issuer = 0; card = record { digits = 0; count = 0 }; processing = 0; amount = 0; kind = Request; state = Barred; code = 21 }
+barred n =
+    record { number = n; issuer = 0; terms = record { card = record { digits = 0; count = 0 }; processing = 0; amount = 0; kind = Request }; state = Barred; code = 21 }
 
 -- an entry that a message makes
 abbrev pub entered : ℕ → ℕ → Terms → State → ℕ → Entry
-entered n issuer x state code = record { number = n; issuer = issuer; card = x.card; processing = x.processing; amount = x.amount; kind = x.kind; state = state; code = code }
+entered n issuer x state code = record { number = n; issuer = issuer; terms = x; state = state; code = code }
 
 -- the same entry in another state
 abbrev pub in_state : State → Entry → Entry
-in_state state e = record { number = e.number; issuer = e.issuer; card = e.card; processing = e.processing; amount = e.amount; kind = e.kind; state = state; code = e.code }
+in_state state e = record { number = e.number; issuer = e.issuer; terms = e.terms; state = state; code = e.code }
 
 -- the same entry, owed since it was reversed
 abbrev pub owing : Entry → Entry
-owing e = record { number = e.number; issuer = e.issuer; card = e.card; processing = e.processing; amount = e.amount; kind = e.kind; state = Owed; code = 21 }
+owing e = record { number = e.number; issuer = e.issuer; terms = e.terms; state = Owed; code = 21 }
 
 abbrev pub same_kind : Kind → Kind → Bool
 same_kind Request Request = true
@@ -76,7 +82,7 @@ same_kind Advice Advice = true
 
 -- the same card digit by digit, processing code, amount and kind
 abbrev pub same_terms : Entry → Terms → Bool
-same_terms e x = e.card.digits == x.card.digits && e.card.count == x.card.count && e.processing == x.processing && e.amount == x.amount && same_kind e.kind x.kind
+same_terms e x = e.terms.card.digits == x.card.digits && e.terms.card.count == x.card.count && e.terms.processing == x.processing && e.terms.amount == x.amount && same_kind e.terms.kind x.kind
 
 -- what a request or an advice that comes again is answered, by the entry's state, whether the terms are the same, and the entry's code
 abbrev pub repeated : State → Bool → ℕ → ℕ
@@ -89,7 +95,7 @@ repeated Reversed same code = cond same code 94
 
 -- a reversal tells an amount: the entry's, or another
 abbrev pub reversal_of : Entry → ℕ → Reversal
-reversal_of e amount = cond (e.amount == amount) SameAmount OtherAmount
+reversal_of e amount = cond (e.terms.amount == amount) SameAmount OtherAmount
 
 -- state and reversal together decide
 abbrev pub effect : State → Reversal → Effect

@@ -1,31 +1,20 @@
--- What a pass over the places finds, place by place. Only private functions cite this.
-use Rattle.std.specs.Prelude.{◌≡◌, ℕ, ◌<◌, ◌≤◌, ◌⊎◌, get_or, Some, None, Option, slice_index_or}
+-- What a pass over some places finds. Only a private function cites this.
+use Rattle.std.specs.Prelude.{◌≡◌, ℕ, ◌<◌, ◌≤◌, Bool, true, false, get_or, Some, None, Option, MatchOption}
 use Rattle.journal.specs.declared.entry.Entry.{Entry}
-use Rattle.journal.specs.Places.{Places, Numbered, Unsettled}
+use Rattle.journal.specs.declared.entry.Held.{Held}
+use Rattle.journal.specs.Places.{Places}
 
-pub record FirstNumbered (ps : Places) (number place : ℕ) (e : Entry) : Type 0 where
-  pub inside : place < 512
-  pub there : get_or ps place None ≡ Some e
-  pub number_is : e.number ≡ number
-  pub before : (k : ℕ) → k < place → Numbered (slice_index_or ps k None) number → ⊥
+-- no entry from one place on and before another passes the test
+abbrev pub NonePasses : (Entry → Bool → Type 0) → Places → ℕ → ℕ → Type 0
+NonePasses test ps from to = (k : ℕ) (e : Entry) → from ≤ k → k < to → get_or ps k None ≡ Some e → test e false
 
-abbrev pub Free : Option Entry → Type 0
-Free None = Unit {0}
-Free (Some e) = ⊥
+-- this one does, and none before it
+pub record FirstPassing (test : Entry → Bool → Type 0) (ps : Places) (from to : ℕ) (held : Held) : Type 0 where
+  pub low : from ≤ held.place
+  pub high : held.place < to
+  pub there : get_or ps held.place None ≡ Some held.entry
+  pub passes : test held.entry true
+  pub before : NonePasses test ps from held.place
 
-pub record FirstFree (ps : Places) (place : ℕ) : Type 0 where
-  pub inside : place < 512
-  pub there : Free (slice_index_or ps place None)
-  pub before : (k : ℕ) → k < place → Free (slice_index_or ps k None) → ⊥
-
--- at or after the mark, with none between; or before it, with none after it and none earlier
-abbrev pub Nearest : Places → ℕ → ℕ → Type 0
-Nearest ps mark place =
-    ((mark ≤ place) × ((k : ℕ) → k < place → mark ≤ k → Unsettled (slice_index_or ps k None) → ⊥))
-    ⊎ ((place < mark) × ((k : ℕ) → k < 512 → mark ≤ k → Unsettled (slice_index_or ps k None) → ⊥) × ((k : ℕ) → k < place → Unsettled (slice_index_or ps k None) → ⊥))
-
-pub record FirstFrom (ps : Places) (mark place : ℕ) (e : Entry) : Type 0 where
-  pub inside : place < 512
-  pub there : get_or ps place None ≡ Some e
-  pub here : Unsettled (slice_index_or ps place None)
-  pub nearest : Nearest ps mark place
+pub record Finds (test : Entry → Bool → Type 0) (ps : Places) (from to : ℕ) (result : Option Held) : Type 0 where
+  pub first : MatchOption result (NonePasses test ps from to) (λ held. FirstPassing test ps from to held)

@@ -1,12 +1,13 @@
 // What is read from an entry, and the entries that come of it.
 ghost use Rattle.std.specs.Prelude.{◌≡◌};
-ghost use Rattle.journal.specs.Entries.{letter, unsettled, side_of, details_of, details, barred, entered, in_state, owing, same_terms, repeated, reversal_of, effect};
+ghost use Rattle.journal.specs.Entries.{key_of, letter, unsettled, side_of, details_of, barred, entered, in_state, owing, same_terms, repeated, reversal_of, effect};
 
 use crate::entry::{Effect, Entry, Kind, Reversal, State, Terms};
-use host::line::{Card, Details, Side};
+use host::code;
+use host::line::{Card, Details, Key, Side};
 
 impl State {
-    // The letter by which a state is told.
+    // The letter by which a state is told: a `char`, since one letter needs no formatter.
     pub fn letter(self) -> char
         ensures { result ≡ letter self }
     {
@@ -24,10 +25,7 @@ impl State {
     pub fn unsettled(self) -> bool
         ensures { result ≡ unsettled self }
     {
-        match self {
-            State::Waiting | State::Owed => true,
-            State::Completed | State::Declined | State::Reversed | State::Barred => false,
-        }
+        matches!(self, State::Waiting | State::Owed)
     }
 }
 
@@ -42,13 +40,20 @@ pub fn side(processing: u32) -> Side
 }
 
 impl Terms {
-    // What the host books.
+    // Debit or credit.
+    pub fn side(&self) -> Side
+        ensures { result ≡ side_of self.now.processing }
+    {
+        side(self.processing)
+    }
+
+    // What the host books, or takes back.
     pub fn details(&self) -> Details
         ensures { result ≡ details_of self.now }
     {
         Details {
             card: self.card,
-            side: side(self.processing),
+            side: self.side(),
             amount: self.amount,
         }
     }
@@ -56,16 +61,13 @@ impl Terms {
 
 impl Entry {
     // The entry that a message makes.
-    pub fn new(number: u64, issuer: u8, terms: Terms, state: State, code: u8) -> Entry
-        ensures { result ≡ entered number issuer terms state code }
+    pub fn new(key: Key, terms: Terms, state: State, code: u8) -> Entry
+        ensures { result ≡ entered key.number key.issuer terms state code }
     {
         Entry {
-            number,
-            issuer,
-            card: terms.card,
-            processing: terms.processing,
-            amount: terms.amount,
-            kind: terms.kind,
+            number: key.number,
+            issuer: key.issuer,
+            terms,
             state,
             code,
         }
@@ -76,25 +78,22 @@ impl Entry {
         ensures { result ≡ barred number }
     {
         let nothing = Terms {
-            card: Card {
-                digits: 0,
-                count: 0,
-            },
+            card: Card::default(),
             processing: 0,
             amount: 0,
             kind: Kind::Request,
         };
-        Entry::new(number, 0, nothing, State::Barred, 21)
+        let key = Key { issuer: 0, number };
+        Entry::new(key, nothing, State::Barred, code::NO_ACTION_TAKEN)
     }
 
-    // What the host books, or takes back.
-    pub fn details(&self) -> Details
-        ensures { result ≡ details self.now }
+    // What its line is kept under.
+    pub fn key(&self) -> Key
+        ensures { result ≡ key_of self.now }
     {
-        Details {
-            card: self.card,
-            side: side(self.processing),
-            amount: self.amount,
+        Key {
+            issuer: self.issuer,
+            number: self.number,
         }
     }
 
@@ -118,29 +117,19 @@ impl Entry {
     {
         Entry {
             state: State::Owed,
-            code: 21,
+            code: code::NO_ACTION_TAKEN,
             ..*self
         }
-    }
-
-    // The same card, processing code, amount and kind.
-    fn same_terms(&self, terms: &Terms) -> bool
-        ensures { result ≡ same_terms self.now terms.now }
-    {
-        self.card == terms.card
-            && self.processing == terms.processing
-            && self.amount == terms.amount
-            && self.kind == terms.kind
     }
 
     // The response code of a request or an advice that comes again.
     pub fn repeated(&self, terms: &Terms) -> u8
         ensures { result ≡ repeated self.now.state (same_terms self.now terms.now) self.now.code }
     {
-        match (self.state, self.same_terms(terms)) {
-            (State::Barred, _) => 21,
+        match (self.state, self.terms == *terms) {
+            (State::Barred, _) => code::NO_ACTION_TAKEN,
             (_, true) => self.code,
-            (_, false) => 94,
+            (_, false) => code::DUPLICATE,
         }
     }
 
@@ -148,7 +137,7 @@ impl Entry {
     pub fn reversal(&self, amount: u64) -> Reversal
         ensures { result ≡ reversal_of self.now amount }
     {
-        if self.amount == amount {
+        if self.terms.amount == amount {
             Reversal::SameAmount
         } else {
             Reversal::OtherAmount
@@ -160,11 +149,13 @@ impl Entry {
         ensures { result ≡ effect self.now.state reversal }
     {
         match (self.state, reversal) {
-            (State::Barred, _) => Effect::Answers(25),
-            (State::Declined, _) => Effect::Answers(21),
-            (_, Reversal::OtherAmount) => Effect::Answers(13),
+            (State::Barred, _) => Effect::Answers(code::NO_SUCH_RECORD),
+            (State::Declined, _) => Effect::Answers(code::NO_ACTION_TAKEN),
+            (_, Reversal::OtherAmount) => Effect::Answers(code::INVALID_AMOUNT),
             (State::Completed | State::Waiting, Reversal::SameAmount) => Effect::Owes,
-            (State::Owed | State::Reversed, Reversal::SameAmount) => Effect::Answers(0),
+            (State::Owed | State::Reversed, Reversal::SameAmount) => Effect::Answers(
+                code::APPROVED,
+            ),
         }
     }
 }

@@ -22,19 +22,6 @@ pub enum Kind {
     Advice,
 }
 
-// What the journal holds of a transaction.
-#[derive(Clone, Copy, PartialEq, Eq, Debug)]
-pub struct Entry {
-    pub number: u64,
-    pub issuer: u8,
-    pub card: Card,
-    pub processing: u32,
-    pub amount: u64,
-    pub kind: Kind,
-    pub state: State,
-    pub code: u8,
-}
-
 // What a request or an advice asks for.
 #[derive(Clone, Copy, PartialEq, Eq, Debug)]
 pub struct Terms {
@@ -42,6 +29,24 @@ pub struct Terms {
     pub processing: u32,
     pub amount: u64,
     pub kind: Kind,
+}
+
+// What the journal holds of a transaction. Number and issuer are no `Key` here, since a barred entry is a number alone.
+#[derive(Clone, Copy, PartialEq, Eq, Debug)]
+pub struct Entry {
+    pub number: u64,
+    pub issuer: u8,
+    pub terms: Terms,
+    pub state: State,
+    // The response code that a repeat is answered: two digits, of which a host may choose any when it declines.
+    pub code: u8,
+}
+
+// An entry and its place in the journal.
+#[derive(Clone, Copy, PartialEq, Eq, Debug)]
+pub struct Held {
+    pub place: usize,
+    pub entry: Entry,
 }
 
 // A reversal, as the entry that it is about sees it.

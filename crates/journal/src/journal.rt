@@ -6,10 +6,14 @@ use crate::entry::Entry;
 
 pub mod places;
 
+// How many places there are.
+pub const PLACES: usize = 512;
+
 // Every journal that exists has no number at two places.
 #[derive(Drop)]
 pub struct Journal {
-    pub places: [Option<Entry>; 512],
+    // Places and no list: one in the middle may be freed.
+    pub places: [Option<Entry>; PLACES],
     ghost full: { length places ≡ 512 },
     ghost apart: { ∥ Apart places ∥₁ },
 }

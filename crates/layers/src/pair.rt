@@ -1,11 +1,13 @@
 // Two hosts side by side.
-ghost use Rattle.std.specs.Prelude.{◌≡◌, ◌<◌, ◌≤◌, None};
+ghost use Rattle.std.specs.Prelude.{◌≡◌};
+ghost use Rattle.host.specs.Logs.{unasked};
 ghost use Rattle.host.specs.Meaning.{Posts, Reverses, Forgets, Turns};
-ghost use Rattle.layers.specs.Views.{paired};
+ghost use Rattle.layers.specs.Views.{paired, Sent};
 
 use host::Host;
-use host::ask::{Ask, ForgetAnswer, PostAnswer, ReverseAnswer};
-use host::line::{Details, Line};
+use host::ask::{ForgetAnswer, PostAnswer, ReverseAnswer};
+use host::line::{Details, Key, Line};
+use host::log::Log;
 
 // Issuers below `split` are sent to the left host, the others to the right one.
 #[derive(Drop)]
@@ -13,91 +15,72 @@ pub struct Pair<L: Host, R: Host> {
     left: L,
     right: R,
     split: u8,
-    asks: u32,
-    turns: u32,
-    latest: Option<Ask>,
+    log: Log,
 }
 
 impl<L: Host, R: Host> Pair<L, R> {
     pub fn new(split: u8, left: L, right: R) -> Pair<L, R>
         ensures left { result.left ≡ left }
         ensures right { result.right ≡ right }
-        ensures own { (result.split ≡ split) × (result.asks ≡ 0) × (result.turns ≡ 0) × (result.latest ≡ None) }
+        ensures split { result.split ≡ split }
+        ensures log { result.log ≡ unasked }
     {
         Pair {
             left,
             right,
             split,
-            asks: 0,
-            turns: 0,
-            latest: None,
+            log: Log::new(),
         }
     }
 }
 
+// Each call says which host it goes to: the two have types of their own, so a value that holds one or the other would need the
+// same two ways for each call.
 impl<L: Host, R: Host> Host for Pair<L, R> {
     ghost meaning = { λ s. paired L.meaning R.meaning s };
 
-    fn post(&mut self, issuer: u8, number: u64, details: Details, must_stand: bool) -> PostAnswer
-        ensures kept { Posts (paired L.meaning R.meaning self.old) issuer number details must_stand result (paired L.meaning R.meaning self.new) }
-        ensures left { issuer < self.old.split → Posts (L.meaning self.old.left) issuer number details must_stand result (L.meaning self.new.left) × (self.new.right ≡ self.old.right) }
-        ensures right { self.old.split ≤ issuer → Posts (R.meaning self.old.right) issuer number details must_stand result (R.meaning self.new.right) × (self.new.left ≡ self.old.left) }
-        ensures same { self.new.split ≡ self.old.split }
+    fn post(&mut self, key: Key, details: Details, must_stand: bool) -> PostAnswer
+        ensures kept { Posts (paired L.meaning R.meaning self.old) key details must_stand result (paired L.meaning R.meaning self.new) }
+        ensures sent { Sent L.meaning R.meaning (λ m n. Posts m key details must_stand result n) key.issuer self.old self.new }
     {
-        let answer = if issuer < self.split {
-            self.left.post(issuer, number, details, must_stand)
+        let answer = if key.issuer < self.split {
+            self.left.post(key, details, must_stand)
         } else {
-            self.right.post(issuer, number, details, must_stand)
+            self.right.post(key, details, must_stand)
         };
-        self.asks = self.asks.wrapping_add(1);
-        self.latest = Some(Ask::Post {
-            issuer,
-            number,
-            details,
-            must_stand,
-            answer,
-        });
+        self.log.posted(key, details, must_stand, answer);
         answer
     }
 
-    fn reverse(&mut self, issuer: u8, number: u64) -> ReverseAnswer
-        ensures kept { Reverses (paired L.meaning R.meaning self.old) issuer number result (paired L.meaning R.meaning self.new) }
-        ensures left { issuer < self.old.split → Reverses (L.meaning self.old.left) issuer number result (L.meaning self.new.left) × (self.new.right ≡ self.old.right) }
-        ensures right { self.old.split ≤ issuer → Reverses (R.meaning self.old.right) issuer number result (R.meaning self.new.right) × (self.new.left ≡ self.old.left) }
-        ensures same { self.new.split ≡ self.old.split }
+    fn reverse(&mut self, key: Key) -> ReverseAnswer
+        ensures kept { Reverses (paired L.meaning R.meaning self.old) key result (paired L.meaning R.meaning self.new) }
+        ensures sent { Sent L.meaning R.meaning (λ m n. Reverses m key result n) key.issuer self.old self.new }
     {
-        let answer = if issuer < self.split {
-            self.left.reverse(issuer, number)
+        let answer = if key.issuer < self.split {
+            self.left.reverse(key)
         } else {
-            self.right.reverse(issuer, number)
+            self.right.reverse(key)
         };
-        self.asks = self.asks.wrapping_add(1);
-        self.latest = Some(Ask::Reverse {
-            issuer,
-            number,
-            answer,
-        });
+        self.log.reversed(key, answer);
         answer
     }
 
-    fn forget(&mut self, issuer: u8, number: u64) -> ForgetAnswer
-        ensures kept { Forgets (paired L.meaning R.meaning self.old) issuer number result (paired L.meaning R.meaning self.new) }
-        ensures left { issuer < self.old.split → Forgets (L.meaning self.old.left) issuer number result (L.meaning self.new.left) × (self.new.right ≡ self.old.right) }
-        ensures right { self.old.split ≤ issuer → Forgets (R.meaning self.old.right) issuer number result (R.meaning self.new.right) × (self.new.left ≡ self.old.left) }
-        ensures same { self.new.split ≡ self.old.split }
+    fn forget(&mut self, key: Key) -> ForgetAnswer
+        ensures kept { Forgets (paired L.meaning R.meaning self.old) key result (paired L.meaning R.meaning self.new) }
+        ensures sent { Sent L.meaning R.meaning (λ m n. Forgets m key result n) key.issuer self.old self.new }
     {
-        if issuer < self.split {
-            self.left.forget(issuer, number)
+        if key.issuer < self.split {
+            self.left.forget(key)
         } else {
-            self.right.forget(issuer, number)
+            self.right.forget(key)
         }
     }
 
-    fn line(&self, issuer: u8, number: u64) -> Line {
-        if issuer < self.split {
-            self.left.line(issuer, number)
+    fn line(&self, key: Key) -> Line {
+        if key.issuer < self.split {
+            self.left.line(key)
         } else {
-            self.right.line(issuer, number)
+            self.right.line(key)
         }
     }
 
@@ -107,6 +90,6 @@ impl<L: Host, R: Host> Host for Pair<L, R> {
         ensures below { (self.new.left ≡ self.old.left) × (self.new.right ≡ self.old.right) }
         ensures same { self.new.split ≡ self.old.split }
     {
-        self.turns = self.turns.wrapping_add(1);
+        self.log.turn();
     }
 }

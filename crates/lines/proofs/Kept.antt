@@ -1,229 +1,220 @@
 -- What a change at one place of a table does to its lines.
-use Rattle.std.proofs.Common.{◌≡◌, ℕ, zero, suc, ◌+◌, ◌-◌, ◌<◌, true, false, cond, ◌||◌, ltb, List, [], ◌∷◌, length, get_or, set, replicate, Some, None, Option, sym, refl, ap, ◌∙◌, subst, ⊎_elim, arith}
-use Rattle.std.proofs.lemmas.Bool.{cond-true, cond-false, cases_Bool, and_parts, and_from, and_left, and_right, eqb-true, eq-eqb, ne_eqb, or_left, or_right, or_from, or_parts, both_ways, cases_eq, lt-ltb, le-ltb}
+use Rattle.std.proofs.Common.{◌≡◌, ℕ, zero, suc, ◌+◌, ◌<◌, Bool, true, false, cond, not, ltb, List, [], ◌∷◌, length, get_or, set, replicate, Some, None, Option, is_some, sym, refl, ap, ◌∙◌, ⊎_elim, arith, length-set}
+use Rattle.std.specs.List.{position, position_or_len}
+use Rattle.std.specs.Option.{IsSome, option_or}
+use Rattle.std.proofs.lemmas.Bool.Decides.{nat_tests}
+use Rattle.std.proofs.lemmas.List.{get_or-set_same, get_or-set_other}
+use Rattle.std.proofs.lemmas.List.Quantifiers.{position-Some}
+use Rattle.std.proofs.lemmas.List.Sums.{prefix_len_passes}
+use Rattle.std.proofs.lemmas.Bool.{cond-true, cond-false, cases_Bool, and_parts, not-true, ltb-false, both_ways}
+use Rattle.host.specs.declared.line.Key.{Key}
 use Rattle.host.specs.declared.line.Line.{Line}
 use Rattle.host.specs.declared.line.Line.TheVariants.{Absent, Posted, Adrift, Leaving, Closed}
 use Rattle.lines.specs.declared.table.Row.{Row}
-use Rattle.lines.specs.Answers.{present}
-use Rattle.lines.specs.Rows.{taken_by, kept, line_at, shown, one_free, free, row, Alone, Once, Others, Stored, Cleared}
+use Rattle.lines.specs.Answers.{present, room_for}
+use Rattle.lines.specs.Rows.{taken_by, line_at, shown, one_free, free, place_of, lowest_free, alone, distinct, Others, Leaves}
 
 -- an empty table
 pub empty_shown : (n issuer number : ℕ) → shown (replicate n None) issuer number ≡ Absent
 empty_shown zero issuer number = refl
 empty_shown (suc n) issuer number = empty_shown n issuer number
 
-pub empty_once : (n : ℕ) → Once (replicate n None)
-empty_once zero = tt
-empty_once (suc n) = (tt, empty_once n)
+pub empty_distinct : (n : ℕ) → distinct (replicate n None) ≡ true
+empty_distinct zero = refl
+empty_distinct (suc n) = empty_distinct n
 
 pub empty_free : (n : ℕ) → free (replicate n None) ≡ n
 empty_free zero = refl
 empty_free (suc n) = let e = empty_free n in omega arith
 
--- no place has it
-pub none_kept : (ps : List (Option Row)) (issuer number : ℕ) → ((k : ℕ) → k < length ps → taken_by (get_or ps k None) issuer number ≡ false) → kept ps issuer number ≡ false
-none_kept [] issuer number h = refl
-none_kept (p ∷ ps) issuer number h = or_from _ _ (h 0 (omega arith)) (none_kept ps issuer number (λ k l. h (suc k) (omega arith)))
+-- a place that is free, or has the key
+abbrev pub Ours : Option Row → Key → Type 0
+Ours None key = Unit {0}
+Ours (Some r) key = taken_by (Some r) key.issuer key.number ≡ true
 
-pub kept_at : (ps : List (Option Row)) (i issuer number : ℕ) → i < length ps → taken_by (get_or ps i None) issuer number ≡ true → kept ps issuer number ≡ true
-kept_at [] i issuer number h t = absurd (omega arith)
-kept_at (p ∷ ps) zero issuer number h t = or_left _ _ t
-kept_at (p ∷ ps) (suc i) issuer number h t = or_right (taken_by p issuer number) _ (kept_at ps i issuer number (omega arith) t)
+own : (key : Key) (l : Line) → taken_by (Some (record { key = key; line = l })) key.issuer key.number ≡ true
+own key l = grind (arith, nat_tests)
 
--- a pair that no place has shows nothing, and one that a place has shows something
-pub unkept_absent : (ps : List (Option Row)) (issuer number : ℕ) → kept ps issuer number ≡ false → shown ps issuer number ≡ Absent
-unkept_absent [] issuer number h = refl
-unkept_absent (p ∷ ps) issuer number h =
-    let q = or_parts (taken_by p issuer number) (kept ps issuer number) h in
-    cond-false _ _ _ q.0 ∙ unkept_absent ps issuer number q.1
+taken_ours : (p : Option Row) (key : Key) → taken_by p key.issuer key.number ≡ true → Ours p key
+taken_ours None key t = tt
+taken_ours (Some r) key t = t
 
-solid : (p : Option Row) (ps : List (Option Row)) (issuer number : ℕ) → Alone p ps → taken_by p issuer number ≡ true → line_at p Absent ≡ Absent → ⊥
-solid None ps issuer number a t e = both_ways false refl t
-solid (Some r) ps issuer number a t e = a.1 e
+-- such a place has no other key
+other_keys : (p : Option Row) (key : Key) (i k : ℕ) → Ours p key → ((i ≡ key.issuer) × (k ≡ key.number) → ⊥) → taken_by p i k ≡ false
+other_keys None key i k o n = refl
+other_keys (Some r) key i k o n = grind (arith, nat_tests)
 
-pub absent_unkept : (ps : List (Option Row)) (issuer number : ℕ) → Once ps → shown ps issuer number ≡ Absent → kept ps issuer number ≡ false
-absent_unkept [] issuer number o h = refl
-absent_unkept (p ∷ ps) issuer number o h =
+-- no place has the key
+none_absent : (ps : List (Option Row)) (key : Key) → ((k : ℕ) → k < length ps → taken_by (get_or ps k None) key.issuer key.number ≡ false) → shown ps key.issuer key.number ≡ Absent
+none_absent [] key h = refl
+none_absent (p ∷ ps) key h = cond-false _ _ _ (h 0 (omega arith)) ∙ none_absent ps key (λ k l. h (suc k) (omega arith))
+
+-- a place that has a key shows a line
+absent_none : (ps : List (Option Row)) (key : Key) (k : ℕ) → distinct ps ≡ true → shown ps key.issuer key.number ≡ Absent → taken_by (get_or ps k None) key.issuer key.number ≡ false
+absent_none [] key k d e = refl
+absent_none (None ∷ ps) key zero d e = refl
+absent_none (None ∷ ps) key (suc k) d e = absent_none ps key k d e
+absent_none (Some r ∷ ps) key zero d e = grind arith
+absent_none (Some r ∷ ps) key (suc k) d e = grind (arith, absent_none ps key k)
+
+no_key : (p : Option Row) (ps : List (Option Row)) (key : Key) → alone p ps ≡ true → taken_by p key.issuer key.number ≡ true → shown ps key.issuer key.number ≡ Absent
+no_key None ps key o t = absurd (both_ways false refl t)
+no_key (Some r) ps key o t = grind (arith, nat_tests)
+
+-- no other place has the key
+abbrev pub Sole : List (Option Row) → ℕ → Key → Type 0
+Sole ps i key = (k : ℕ) → k < length ps → (k ≡ i → ⊥) → taken_by (get_or ps k None) key.issuer key.number ≡ false
+
+sole_tail : (p : Option Row) (ps : List (Option Row)) (i : ℕ) (key : Key) → Sole (p ∷ ps) (suc i) key → Sole ps i key
+sole_tail p ps i key s k l n = s (suc k) (omega arith) (λ e. n (omega arith))
+
+pub sole_taken : (ps : List (Option Row)) (i : ℕ) (key : Key) → distinct ps ≡ true → i < length ps → taken_by (get_or ps i None) key.issuer key.number ≡ true → Sole ps i key
+sole_taken [] i key o h t k l n = refl
+sole_taken (p ∷ ps) zero key o h t zero l n = absurd (n refl)
+sole_taken (p ∷ ps) zero key o h t (suc k) l n = grind (arith, no_key p ps key, absent_none ps key k)
+sole_taken (p ∷ ps) (suc i) key o h t zero l n = grind (arith, no_key p ps key, absent_none ps key i)
+sole_taken (p ∷ ps) (suc i) key o h t (suc k) l n = grind (arith, sole_taken ps i key)
+
+-- such a place tells the line of the key
+pub shown_sole : (ps : List (Option Row)) (i : ℕ) (key : Key) → i < length ps → Ours (get_or ps i None) key → Sole ps i key → shown ps key.issuer key.number ≡ line_at (get_or ps i None) Absent
+shown_sole [] i key h o s = absurd (omega arith)
+shown_sole (None ∷ ps) zero key h o s = none_absent ps key (λ k l. s (suc k) (omega arith) (λ e. omega arith))
+shown_sole (Some r ∷ ps) zero key h o s = cond-true _ _ _ o
+shown_sole (p ∷ ps) (suc i) key h o s = cond-false _ _ _ (s 0 (omega arith) (λ e. omega arith)) ∙ shown_sole ps i key (omega arith) o (sole_tail p ps i key s)
+
+-- a change at a place: all other lines stay
+others-set : (ps : List (Option Row)) (i : ℕ) (key : Key) (q : Option Row) → i < length ps → Ours (get_or ps i None) key → Ours q key → Others ps key (set ps i q)
+others-set [] i key q h o w j k n = refl
+others-set (p ∷ ps) zero key q h o w j k n = rw (other_keys q key j k w n, other_keys p key j k o n) refl
+others-set (p ∷ ps) (suc i) key q h o w j k n = rw (others-set ps i key q (omega arith) o w j k n) refl
+
+sole-set : (ps : List (Option Row)) (i : ℕ) (key : Key) (q : Option Row) → Sole ps i key → Sole (set ps i q) i key
+sole-set ps i key q s k l n = rw (get_or-set_other ps i k q None n) (s k (omega (arith, length-set ps i q)) n)
+
+-- what a place holds where it has a line for the key, or none
+abbrev pub Holding : Option Row → Key → Line → Type 0
+Holding None key l = l ≡ Absent
+Holding (Some r) key l = (r ≡ record { key = key; line = l }) × (present l ≡ true)
+
+holding_ours : (q : Option Row) (key : Key) (l : Line) → Holding q key l → Ours q key
+holding_ours None key l w = tt
+holding_ours (Some r) key l w = rw w.0 (own key l)
+
+holding_line : (q : Option Row) (key : Key) (l : Line) → Holding q key l → line_at q Absent ≡ l
+holding_line None key l w = sym w
+holding_line (Some r) key l w = rw w.0 refl
+
+-- each place stays alone with its key
+alone_holding : (q : Option Row) (key : Key) (l : Line) (ps : List (Option Row)) → Holding q key l → shown ps key.issuer key.number ≡ Absent → alone q ps ≡ true
+alone_holding None key l ps w e = refl
+alone_holding (Some r) key l ps w e = rw (w.0, w.1, e) refl
+
+alone_stays : (p : Option Row) (ps qs : List (Option Row)) (key : Key) → alone p ps ≡ true → taken_by p key.issuer key.number ≡ false → Others ps key qs → alone p qs ≡ true
+alone_stays None ps qs key o t e = refl
+alone_stays (Some r) ps qs key o t e = rw (e r.key.issuer r.key.number (λ s. both_ways _ t (grind (arith, nat_tests)))) o
+
+pub distinct-set : (ps : List (Option Row)) (i : ℕ) (key : Key) (l : Line) (q : Option Row) → distinct ps ≡ true → i < length ps → Ours (get_or ps i None) key → Sole ps i key → Holding q key l → distinct (set ps i q) ≡ true
+distinct-set [] i key l q o h u s w = refl
+distinct-set (p ∷ ps) zero key l q o h u s w =
+    let a = alone_holding q key l ps w (none_absent ps key (λ k m. s (suc k) (omega arith) (λ e. omega arith))) in
+    grind arith
+distinct-set (p ∷ ps) (suc i) key l q o h u s w =
+    let parts = and_parts (alone p ps) (distinct ps) o in
+    let a = alone_stays p ps (set ps i q) key parts.0 (s 0 (omega arith) (λ e. omega arith)) (others-set ps i key q (omega arith) u (holding_ours q key l w)) in
+    let b = distinct-set ps i key l q parts.1 (omega arith) u (sole_tail p ps i key s) w in
+    grind arith
+
+-- how many places are then free
+free-set : (ps : List (Option Row)) (i : ℕ) (q : Option Row) → i < length ps → free (set ps i q) + one_free (get_or ps i None) ≡ free ps + one_free q
+free-set [] i q h = absurd (omega arith)
+free-set (p ∷ ps) zero q h = omega arith
+free-set (p ∷ ps) (suc i) q h = let r = free-set ps i q (omega arith) in omega arith
+
+present_at : (ps : List (Option Row)) (i : ℕ) → distinct ps ≡ true → i < length ps → one_free (get_or ps i None) ≡ cond (present (line_at (get_or ps i None) Absent)) 0 1
+present_at [] i o h = absurd (omega arith)
+present_at (None ∷ ps) zero o h = refl
+present_at (Some r ∷ ps) zero o h = grind arith
+present_at (p ∷ ps) (suc i) o h = grind (arith, present_at ps i)
+
+holding_free : (q : Option Row) (key : Key) (l : Line) → Holding q key l → one_free q ≡ cond (present l) 0 1
+holding_free None key l w = rw w refl
+holding_free (Some r) key l w = rw w.1 refl
+
+-- the place of the key, or a free one, comes to hold this line
+pub leaves-set : (ps : List (Option Row)) (i : ℕ) (key : Key) (l : Line) (q : Option Row) → distinct ps ≡ true → i < length ps → Ours (get_or ps i None) key → Sole ps i key → Holding q key l → Leaves ps key l (set ps i q)
+leaves-set ps i key l q o h u s w =
+    let at = get_or-set_same ps i q None h in
+    let ours = holding_ours q key l w in
+    record {
+      here = shown_sole (set ps i q) i key (omega (arith, length-set ps i q)) (rw at ours) (sole-set ps i key q s) ∙ rw at (holding_line q key l w);
+      others = others-set ps i key q h u ours;
+      left = rw (shown_sole ps i key h u s) (grind (arith, nat_tests, free-set ps i q h, present_at ps i o h, holding_free q key l w));
+    }
+
+-- what a search for a place that passes a test tells
+none_at : {X : Type 0} (p : X → Bool) (xs : List X) → position p xs ≡ None → (k : ℕ) (d : X) → k < length xs → p (get_or xs k d) ≡ false
+none_at p xs e k d l =
     ⊎_elim
-    (λ t. absurd (solid p ps issuer number o.0 t (sym (cond-true _ _ _ t) ∙ h)))
-    (λ f. or_from _ _ f (absent_unkept ps issuer number o.1 (sym (cond-false _ _ _ f) ∙ h)))
-    (cases_Bool (taken_by p issuer number))
+    (λ t. absurd (let h = sym (cond-true _ _ _ t) ∙ e in cc))
+    (λ f. not-true _ (prefix_len_passes (λ x. not (p x)) xs k d (let m = ltb-false _ _ f in omega arith)))
+    (cases_Bool (ltb (position_or_len p xs) (length xs)))
 
--- a place has a pair exactly if a line is shown for it
-present_if : (l : Line) → (l ≡ Absent → ⊥) → present l ≡ true
+pub not_there : (ps : List (Option Row)) (key : Key) → place_of ps key ≡ None → shown ps key.issuer key.number ≡ Absent
+not_there ps key e = none_absent ps key (λ k l. none_at _ ps e k None l)
+
+-- nothing changes where no place has the key, and none is to have it
+pub leaves_none : (ps : List (Option Row)) (key : Key) → place_of ps key ≡ None → Leaves ps key Absent ps
+leaves_none ps key n = let e = not_there ps key n in record { here = e; others = λ i m o. refl; left = rw e refl }
+
+-- the place that a key has is the only one
+pub found : (ps : List (Option Row)) (i : ℕ) (key : Key) → distinct ps ≡ true → place_of ps key ≡ Some i → (i < length ps) × Ours (get_or ps i None) key × Sole ps i key
+found ps i key o e =
+    let at = position-Some _ ps i None e in
+    (at.0, taken_ours _ key at.1, sole_taken ps i key o at.0 at.1)
+
+-- free places
+all_taken : (ps : List (Option Row)) → ((k : ℕ) → k < length ps → not (is_some (get_or ps k None)) ≡ false) → free ps ≡ 0
+all_taken [] h = refl
+all_taken (None ∷ ps) h = absurd (both_ways true (h 0 (omega arith)) refl)
+all_taken (Some r ∷ ps) h = let e = all_taken ps (λ k l. h (suc k) (omega arith)) in omega arith
+
+free_one : (p : Option Row) → not (is_some p) ≡ true → p ≡ None
+free_one None h = refl
+free_one (Some r) h = absurd (both_ways false refl h)
+
+some_free : (ps : List (Option Row)) (i : ℕ) → i < length ps → get_or ps i None ≡ None → 0 < free ps
+some_free [] i h e = absurd (omega arith)
+some_free (p ∷ ps) zero h e = omega (arith, ap one_free e)
+some_free (p ∷ ps) (suc i) h e = let r = some_free ps i (omega arith) e in omega arith
+
+free_is : (ps : List (Option Row)) (o : Option ℕ) → lowest_free ps ≡ o → is_some o ≡ ltb 0 (free ps)
+free_is ps None e = let z = all_taken ps (λ k l. none_at _ ps e k None l) in grind (arith, nat_tests)
+free_is ps (Some i) e = let at = position-Some _ ps i None e in let z = some_free ps i at.0 (free_one _ at.1) in grind (arith, nat_tests)
+
+pub free_known : (ps : List (Option Row)) → is_some (lowest_free ps) ≡ ltb 0 (free ps)
+free_known ps = free_is ps (lowest_free ps) refl
+
+-- the place that the key has, or else a free one
+place_found : (ps : List (Option Row)) (i : ℕ) (key : Key) (o p : Option ℕ) → place_of ps key ≡ o → lowest_free ps ≡ p → distinct ps ≡ true → option_or o p ≡ Some i → (i < length ps) × Ours (get_or ps i None) key × Sole ps i key
+place_found ps i key (Some j) p e f d h = found ps i key d (e ∙ h)
+place_found ps i key None p e f d h =
+    let at = position-Some _ ps i None (f ∙ h) in
+    (at.0, rw (free_one _ at.1) tt, λ k l n. none_at _ ps e k None l)
+
+pub placed : (ps : List (Option Row)) (i : ℕ) (key : Key) → distinct ps ≡ true → option_or (place_of ps key) (lowest_free ps) ≡ Some i → (i < length ps) × Ours (get_or ps i None) key × Sole ps i key
+placed ps i key d h = place_found ps i key (place_of ps key) (lowest_free ps) refl refl d h
+
+place_is : (ps : List (Option Row)) (key : Key) (l : Line) (o : Option ℕ) → place_of ps key ≡ o → present l ≡ true → room_for (shown ps key.issuer key.number) l (free ps) ≡ true → IsSome (option_or o (lowest_free ps))
+place_is ps key l (Some i) e w h = refl
+place_is ps key l None e w h = free_known ps ∙ rw (not_there ps key e, w) at h
+
+-- where there is room for a line, there is a place for it
+pub has_place : (ps : List (Option Row)) (key : Key) (l : Line) → present l ≡ true → room_for (shown ps key.issuer key.number) l (free ps) ≡ true → IsSome (option_or (place_of ps key) (lowest_free ps))
+has_place ps key l w h = place_is ps key l (place_of ps key) refl w h
+
+pub present_if : (l : Line) → (l ≡ Absent → ⊥) → present l ≡ true
 present_if Absent n = absurd (n refl)
 present_if (Posted d) n = refl
 present_if (Adrift d) n = refl
 present_if (Leaving d) n = refl
 present_if Closed n = refl
-
-pub kept_present : (ps : List (Option Row)) (issuer number : ℕ) → Once ps → kept ps issuer number ≡ present (shown ps issuer number)
-kept_present ps issuer number o =
-    ⊎_elim
-    (λ t. t ∙ sym (present_if (shown ps issuer number) (λ e. both_ways (kept ps issuer number) (absent_unkept ps issuer number o e) t)))
-    (λ f. f ∙ sym (ap present (unkept_absent ps issuer number f)))
-    (cases_Bool (kept ps issuer number))
-
-same_pair : (p : Option Row) (a b i k : ℕ) → taken_by p a b ≡ true → ((i ≡ a) × (k ≡ b) → ⊥) → taken_by p i k ≡ false
-same_pair None a b i k t n = refl
-same_pair (Some r) a b i k t n =
-    let q = and_parts _ _ t in
-    let x = eqb-true r.issuer a q.0 in
-    let y = eqb-true r.number b q.1 in
-    ⊎_elim
-    (λ e. ⊎_elim (λ f. absurd (n (sym e ∙ x, sym f ∙ y))) (λ f. and_right _ _ (ne_eqb r.number k f)) (cases_eq r.number k))
-    (λ e. and_left _ _ (ne_eqb r.issuer i e))
-    (cases_eq r.issuer i)
-
-pub own : (a b : ℕ) (l : Line) → taken_by (Some (row a b l)) a b ≡ true
-own a b l = and_from _ _ (eq-eqb a a refl) (eq-eqb b b refl)
-
--- a place that is free, or has the pair
-abbrev pub Ours : Option Row → ℕ → ℕ → Type 0
-Ours p a b = (i k : ℕ) → ((i ≡ a) × (k ≡ b) → ⊥) → taken_by p i k ≡ false
-
-pub ours_taken : (p : Option Row) (a b : ℕ) → taken_by p a b ≡ true → Ours p a b
-ours_taken p a b t i k n = same_pair p a b i k t n
-
-pub ours_free : (a b : ℕ) → Ours None a b
-ours_free a b i k n = refl
-
--- all other lines stay where such a place is given to the pair, or freed
-pub others-set : (ps : List (Option Row)) (i a b : ℕ) (q : Option Row) → i < length ps → Ours (get_or ps i None) a b → Ours q a b → Others ps a b (set ps i q)
-others-set [] i a b q h o w j k n = refl
-others-set (p ∷ ps) zero a b q h o w j k n = cond-false _ _ _ (w j k n) ∙ sym (cond-false _ _ _ (o j k n))
-others-set (p ∷ ps) (suc i) a b q h o w j k n = ap (cond (taken_by p j k) (line_at p Absent)) (others-set ps i a b q (omega arith) o w j k n)
-
-kept_others : (ps : List (Option Row)) (i a b : ℕ) (q : Option Row) → i < length ps → Ours (get_or ps i None) a b → Ours q a b → (j k : ℕ) → ((j ≡ a) × (k ≡ b) → ⊥) → kept (set ps i q) j k ≡ kept ps j k
-kept_others [] i a b q h o w j k n = refl
-kept_others (p ∷ ps) zero a b q h o w j k n = (λ x. w j k n x || kept ps j k) ∙ sym (λ x. o j k n x || kept ps j k)
-kept_others (p ∷ ps) (suc i) a b q h o w j k n = ap (λ x. taken_by p j k || x) (kept_others ps i a b q (omega arith) o w j k n)
-
--- the pair itself: no place before has it
-pub shown-set : (ps : List (Option Row)) (i a b : ℕ) (l : Line) → i < length ps → ((k : ℕ) → k < i → taken_by (get_or ps k None) a b ≡ false) → shown (set ps i (Some (row a b l))) a b ≡ l
-shown-set [] i a b l h n = absurd (omega arith)
-shown-set (p ∷ ps) zero a b l h n = cond-true _ _ _ (own a b l)
-shown-set (p ∷ ps) (suc i) a b l h n = cond-false _ _ _ (n 0 (omega arith)) ∙ shown-set ps i a b l (omega arith) (λ k m. n (suc k) (omega arith))
-
--- no other place has the pair
-abbrev pub Sole : List (Option Row) → ℕ → ℕ → ℕ → Type 0
-Sole ps i a b = (k : ℕ) → k < length ps → (k ≡ i → ⊥) → taken_by (get_or ps k None) a b ≡ false
-
-pub taken_none : (ps : List (Option Row)) (a b k : ℕ) → kept ps a b ≡ false → taken_by (get_or ps k None) a b ≡ false
-taken_none [] a b k h = refl
-taken_none (p ∷ ps) a b zero h = (or_parts (taken_by p a b) (kept ps a b) h).0
-taken_none (p ∷ ps) a b (suc k) h = taken_none ps a b k (or_parts (taken_by p a b) (kept ps a b) h).1
-
-alone_kept : (p : Option Row) (ps : List (Option Row)) (a b : ℕ) → Alone p ps → taken_by p a b ≡ true → kept ps a b ≡ false
-alone_kept None ps a b o t = absurd (both_ways false refl t)
-alone_kept (Some r) ps a b o t =
-    let q = and_parts _ _ t in
-    (λ j. kept ps (sym (eqb-true r.issuer a q.0) j) (sym (eqb-true r.number b q.1) j)) ∙ o.0
-
-pub sole_taken : (ps : List (Option Row)) (i a b : ℕ) → Once ps → i < length ps → taken_by (get_or ps i None) a b ≡ true → Sole ps i a b
-sole_taken [] i a b o h t k l n = refl
-sole_taken (p ∷ ps) zero a b o h t zero l n = absurd (n refl)
-sole_taken (p ∷ ps) zero a b o h t (suc k) l n = taken_none ps a b k (alone_kept p ps a b o.0 t)
-sole_taken (p ∷ ps) (suc i) a b o h t zero l n =
-    ⊎_elim
-    (λ u. absurd (both_ways _ (alone_kept p ps a b o.0 u) (kept_at ps i a b (omega arith) t)))
-    (λ f. f)
-    (cases_Bool (taken_by p a b))
-sole_taken (p ∷ ps) (suc i) a b o h t (suc k) l n = sole_taken ps i a b o.1 (omega arith) t k (omega arith) (λ e. n (ap suc e))
-
-pub sole_free : (ps : List (Option Row)) (i a b : ℕ) → kept ps a b ≡ false → Sole ps i a b
-sole_free ps i a b h k l n = taken_none ps a b k h
-
--- a place before stays alone
-alone_stays : (p : Option Row) (ps qs : List (Option Row)) (a b : ℕ) → Alone p ps → taken_by p a b ≡ false → ((j k : ℕ) → ((j ≡ a) × (k ≡ b) → ⊥) → kept qs j k ≡ kept ps j k) → Alone p qs
-alone_stays None ps qs a b o t e = tt
-alone_stays (Some r) ps qs a b o t e =
-    (e r.issuer r.number (λ s. both_ways _ t (and_from _ _ (eq-eqb r.issuer a s.0) (eq-eqb r.number b s.1))) ∙ o.0, o.1)
-
-pub once-set : (ps : List (Option Row)) (i a b : ℕ) (q : Option Row) → Once ps → i < length ps → Ours (get_or ps i None) a b → Ours q a b → Sole ps i a b → ((rs : List (Option Row)) → kept rs a b ≡ false → Alone q rs) → Once (set ps i q)
-once-set [] i a b q o h u w s f = tt
-once-set (p ∷ ps) zero a b q o h u w s f = (f ps (none_kept ps a b (λ k l. s (suc k) (omega arith) (λ e. omega arith))), o.1)
-once-set (p ∷ ps) (suc i) a b q o h u w s f = (
-  alone_stays p ps (set ps i q) a b o.0 (s 0 (omega arith) (λ e. omega arith)) (kept_others ps i a b q (omega arith) u w),
-  once-set ps i a b q o.1 (omega arith) u w (λ k l n. s (suc k) (omega arith) (λ e. n (omega arith))) f,
-)
-
--- a row that is a line
-pub alone_row : (a b : ℕ) (l : Line) → (l ≡ Absent → ⊥) → (rs : List (Option Row)) → kept rs a b ≡ false → Alone (Some (row a b l)) rs
-alone_row a b l n rs k = (k, n)
-
-pub free-set : (ps : List (Option Row)) (i : ℕ) (q : Option Row) → i < length ps → free (set ps i q) + one_free (get_or ps i None) ≡ free ps + one_free q
-free-set [] i q h = absurd (omega arith)
-free-set (p ∷ ps) zero q h = omega arith
-free-set (p ∷ ps) (suc i) q h = let r = free-set ps i q (omega arith) in omega arith
-
--- the pair's place given up
-pub cleared_kept : (ps : List (Option Row)) (i a b : ℕ) → i < length ps → Sole ps i a b → kept (set ps i None) a b ≡ false
-cleared_kept [] i a b h s = refl
-cleared_kept (p ∷ ps) zero a b h s = none_kept ps a b (λ k l. s (suc k) (omega arith) (λ e. omega arith))
-cleared_kept (p ∷ ps) (suc i) a b h s = or_from _ _ (s 0 (omega arith) (λ e. omega arith)) (cleared_kept ps i a b (omega arith) (λ k l n. s (suc k) (omega arith) (λ e. n (omega arith))))
-
--- the first place that has the pair tells its line
-pub shown_at : (ps : List (Option Row)) (i a b : ℕ) → i < length ps → taken_by (get_or ps i None) a b ≡ true → ((k : ℕ) → k < i → taken_by (get_or ps k None) a b ≡ false) → shown ps a b ≡ line_at (get_or ps i None) Absent
-shown_at [] i a b h t n = absurd (omega arith)
-shown_at (p ∷ ps) zero a b h t n = cond-true _ _ _ t
-shown_at (p ∷ ps) (suc i) a b h t n = cond-false _ _ _ (n 0 (omega arith)) ∙ shown_at ps i a b (omega arith) t (λ k m. n (suc k) (omega arith))
-
-taken_full : (p : Option Row) (a b : ℕ) → taken_by p a b ≡ true → one_free p ≡ 0
-taken_full None a b t = absurd (both_ways false refl t)
-taken_full (Some r) a b t = refl
-
--- no free place
-pub none_free : (ps : List (Option Row)) → ((k : ℕ) → k < length ps → get_or ps k None ≡ None → ⊥) → free ps ≡ 0
-none_free [] h = refl
-none_free (None ∷ ps) h = absurd (h 0 (omega arith) refl)
-none_free (Some r ∷ ps) h = let e = none_free ps (λ k l. h (suc k) (omega arith)) in omega arith
-
-pub some_free : (ps : List (Option Row)) (i : ℕ) → i < length ps → get_or ps i None ≡ None → 0 < free ps
-some_free [] i h e = absurd (omega arith)
-some_free (p ∷ ps) zero h e = omega (arith, ap one_free e)
-some_free (p ∷ ps) (suc i) h e = let r = some_free ps i (omega arith) e in omega arith
-
--- a line kept in the place of another
-pub overwritten : (ps : List (Option Row)) (i a b : ℕ) (l : Line) → i < length ps → taken_by (get_or ps i None) a b ≡ true → ((k : ℕ) → k < i → taken_by (get_or ps k None) a b ≡ false) → Stored ps a b l true (set ps i (Some (row a b l)))
-overwritten ps i a b l h t n =
-    let k = kept_at ps i a b h t in
-    record {
-      answer = sym (or_left (kept ps a b) (ltb 0 (free ps)) k);
-      here = shown-set ps i a b l h n;
-      others = others-set ps i a b (Some (row a b l)) h (ours_taken (get_or ps i None) a b t) (ours_taken (Some (row a b l)) a b (own a b l));
-      left = (let f = free-set ps i (Some (row a b l)) h in let z = taken_full (get_or ps i None) a b t in omega arith) ∙ sym (cond-true (kept ps a b) (free ps) (free ps - 1) k);
-    }
-
--- a line kept in a free place
-pub added : (ps : List (Option Row)) (i a b : ℕ) (l : Line) → i < length ps → get_or ps i None ≡ None → kept ps a b ≡ false → Stored ps a b l true (set ps i (Some (row a b l)))
-added ps i a b l h e k =
-    record {
-      answer = sym (or_right (kept ps a b) (ltb 0 (free ps)) (lt-ltb 0 (free ps) (some_free ps i h e)));
-      here = shown-set ps i a b l h (λ j m. taken_none ps a b j k);
-      others = others-set ps i a b (Some (row a b l)) h (subst (λ p. Ours p a b) (sym e) (ours_free a b)) (ours_taken (Some (row a b l)) a b (own a b l));
-      left = (let f = free-set ps i (Some (row a b l)) h in let z = ap one_free e in omega arith) ∙ sym (cond-false (kept ps a b) (free ps) (free ps - 1) k);
-    }
-
--- no place for a line
-pub not_stored : (ps : List (Option Row)) (a b : ℕ) (l : Line) → kept ps a b ≡ false → free ps ≡ 0 → Stored ps a b l false ps
-not_stored ps a b l k f =
-    record {
-      answer = sym (or_from (kept ps a b) (ltb 0 (free ps)) k (le-ltb 0 (free ps) (omega arith)));
-      here = refl;
-      others = λ i m n. refl;
-      left = (let z : free ps ≡ free ps - 1 = omega arith in z) ∙ sym (cond-false (kept ps a b) (free ps) (free ps - 1) k);
-    }
-
-pub given_up : (ps : List (Option Row)) (i a b : ℕ) → i < length ps → taken_by (get_or ps i None) a b ≡ true → kept (set ps i None) a b ≡ false → Cleared ps a b (set ps i None)
-given_up ps i a b h t gone =
-    let k = kept_at ps i a b h t in
-    record {
-      here = unkept_absent (set ps i None) a b gone;
-      others = others-set ps i a b None h (ours_taken (get_or ps i None) a b t) (ours_free a b);
-      left = (let f = free-set ps i None h in let z = taken_full (get_or ps i None) a b t in omega arith) ∙ sym (cond-true (kept ps a b) (free ps + 1) (free ps) k);
-    }
-
-pub nothing_there : (ps : List (Option Row)) (a b : ℕ) → kept ps a b ≡ false → Cleared ps a b ps
-nothing_there ps a b k =
-    record { here = unkept_absent ps a b k; others = λ i m n. refl; left = sym (cond-false (kept ps a b) (free ps + 1) (free ps) k) }

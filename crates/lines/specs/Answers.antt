@@ -1,7 +1,9 @@
--- What a line that is found answers to a post, and what it comes to.
+-- What a line that is found answers to a post and to a reverse, and what it comes to.
 use Rattle.std.specs.Prelude.{ℕ, ◌+◌, ◌-◌, Bool, true, false, cond, not, ◌&&◌, ◌||◌, ◌==◌, nat_lt}
 use Rattle.host.specs.declared.ask.PostAnswer.{PostAnswer}
 use Rattle.host.specs.declared.ask.PostAnswer.TheVariants as posting
+use Rattle.host.specs.declared.ask.ReverseAnswer.{ReverseAnswer}
+use Rattle.host.specs.declared.ask.ReverseAnswer.TheVariants as reversing
 use Rattle.host.specs.declared.line.Details.{Details}
 use Rattle.host.specs.declared.line.Side.{Side}
 use Rattle.host.specs.declared.line.Side.TheVariants.{Debit, Credit}
@@ -25,6 +27,14 @@ is_debit Credit = false
 -- with a line found, a host that is not silent answers by it alone
 abbrev pub repeated : Details → Details → PostAnswer
 repeated e d = cond (same e d) posting.Posted posting.Clash
+
+-- a reverse is silent where a new closed line finds no place
+abbrev pub reverse_answer : ℕ → Line → ReverseAnswer
+reverse_answer free Absent = cond (free == 0) reversing.Silence reversing.Done
+reverse_answer free (Posted d) = reversing.Done
+reverse_answer free (Adrift d) = reversing.Done
+reverse_answer free (Leaving d) = reversing.Done
+reverse_answer free Closed = reversing.Done
 
 -- the line that a post leaves, by its answer
 abbrev pub left_by : Line → Details → PostAnswer → Line

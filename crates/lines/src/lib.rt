@@ -1,7 +1,6 @@
-// What the hosts at the bottom have in common: a table of lines, the log of what they were asked, and what a line comes to.
+// What the hosts at the bottom have in common: a table of lines, and what a line comes to by an answer.
 #![tactic(auto)]
 
 pub mod change;
-pub mod log;
 mod places;
 pub mod table;

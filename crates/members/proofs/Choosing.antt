@@ -1,123 +1,91 @@
 -- The walk that keeps the best way so far ends with one that fits and is not outdone.
-use Rattle.std.proofs.Common.{◌≡◌, ℕ, suc, ◌+◌, ◌<◌, ◌≤◌, true, false, ◌⊎◌, List, [], ◌∷◌, length, get_or, drop, IfSome, Some, None, Option, sym, refl, ap, ◌∙◌, subst, inl, inr, ⊎_elim, arith}
-use Rattle.std.proofs.ByRecursion.{all-has}
-use Rattle.std.proofs.lemmas.List.{at_drop_more, at_drop_all}
-use Rattle.std.proofs.lemmas.Bool.{and_parts, and_cases, cond-true, cond-false, cases_Bool, both_ways, ltb-true, ltb-false}
-use Rattle.std.specs.List.{ContainsAt, AllByRecursion}
+use Rattle.std.proofs.Common.{◌≡◌, ◌<◌, ◌≤◌, true, false, ◌⊎◌, ℕ, List, [], ◌∷◌, IfSome, Some, None, Option, All, sym, refl, ap, ◌∙◌, subst, inl, inr, ⊎_elim, arith}
+use Rattle.std.proofs.lemmas.List.Elements.{All-nil, All-cons, All-contains, Contains-append_right}
+use Rattle.std.proofs.lemmas.Bool.{and_parts, cond-true, cond-false, cases_Bool, ltb-true}
+use Rattle.std.proofs.lemmas.Bool.Decides.{nat_tests}
+use Rattle.std.specs.List.{Contains}
 use Rattle.host.specs.declared.line.Card.{Card}
 use Rattle.members.specs.declared.routes.Way.{Way}
 use Rattle.members.specs.Prefixes.{fits}
-use Rattle.members.specs.Routing.{near, longer, better, longest, issuer_of, route_of, Takes, Issued}
+use Rattle.members.specs.Routing.{better, longest, route_of, Takes, Issued}
 
-pub taken_here : (best : Option Way) (ws : List Way) (card : Card) (i : ℕ) (d : Way) → i < length ws → true ≡ better (get_or ws i d) best card → longest best (drop i ws) card ≡ longest (Some (get_or ws i d)) (drop (i + 1) ws) card
-taken_here best ws card i d h e =
-    at_drop_more (λ vs. longest best vs card) ws i d h ∙ ap (λ b. longest b (drop (i + 1) ws) card) (cond-true _ _ _ (sym e))
+abbrev NotBeyond : Card → Way → Way → Type 0
+NotBeyond card w v = fits v.prefix card ≡ true → v.prefix.count ≤ w.prefix.count
 
-pub passed_here : (best : Option Way) (ws : List Way) (card : Card) (i : ℕ) (d : Way) → i < length ws → false ≡ better (get_or ws i d) best card → longest best (drop i ws) card ≡ longest best (drop (i + 1) ws) card
-passed_here best ws card i d h e =
-    at_drop_more (λ vs. longest best vs card) ws i d h ∙ ap (λ b. longest b (drop (i + 1) ws) card) (cond-false _ _ _ (sym e))
+abbrev Fitting : List Way → Card → Way → Type 0
+Fitting ws card w = Contains ws w × (fits w.prefix card ≡ true)
 
-pub walked : (best : Option Way) (ws : List Way) (card : Card) (i : ℕ) → length ws ≤ i → longest best (drop i ws) card ≡ best
-walked best ws card i h = at_drop_all (λ vs. longest best vs card) ws i h
+-- what the walk comes to after a way was found
+record Ends (b : Way) (ws : List Way) (card : Card) (w : Way) : Type 0 where
+  ends : longest (Some b) ws card ≡ Some w
+  from : (b ≡ w) ⊎ Fitting ws card w
+  most : All (NotBeyond card w) ws
+  start : b.prefix.count ≤ w.prefix.count
 
-abbrev NotBeyond : Option Way → Way → Type 0
-NotBeyond None w = Unit {0}
-NotBeyond (Some b) w = b.prefix.count ≤ w.prefix.count
+later : (v w : Way) (ws : List Way) (card : Card) → Fitting ws card w → Fitting (v ∷ ws) card w
+later v w ws card (k, f) = (Contains-append_right (v ∷ []) ws w k, f)
 
--- what the walk comes to, from the best so far on
-record Ends (best : Option Way) (ws : List Way) (card : Card) (w : Way) : Type 0 where
-  from : (best ≡ Some w) ⊎ (ContainsAt ws w × (fits w.prefix card ≡ true))
-  most : AllByRecursion (λ v. fits v.prefix card ≡ true → v.prefix.count ≤ w.prefix.count) ws
-  start : NotBeyond best w
+found_first : (v w : Way) (ws : List Way) (card : Card) → fits v.prefix card ≡ true → (v ≡ w) ⊎ Fitting ws card w → Fitting (v ∷ ws) card w
+found_first v w ws card f from =
+    ⊎_elim (λ e. subst (Fitting (v ∷ ws) card) e ((0, omega arith, refl), f)) (later v w ws card) from
 
-abbrev Ended : Option Way → List Way → Card → Option Way → Type 0
-Ended best ws card None = (best ≡ None) × AllByRecursion (λ v. fits v.prefix card ≡ false) ws
-Ended best ws card (Some w) = Ends best ws card w
-
-has_later : (w v : Way) (ws : List Way) → ContainsAt ws w → ContainsAt (v ∷ ws) w
-has_later w v ws (k, h, at) = (suc k, omega arith, at)
-
-has_first : (w : Way) (ws : List Way) → ContainsAt (w ∷ ws) w
-has_first w ws = (0, omega arith, λ d. refl)
-
-no_way : (w : Way) → Some w ≡ None → ⊥
-no_way w e = let z : ◌≡◌ {A = ℕ} 0 1 = cc in omega arith
-
-same_way : (v w : Way) → Some v ≡ Some w → v ≡ w
-same_way v w e = cc
-
-longer_start : (best : Option Way) (w u : Way) → longer w best ≡ true → w.prefix.count ≤ u.prefix.count → NotBeyond best u
-longer_start None w u e h = tt
-longer_start (Some b) w u e h = let l = ltb-true _ _ e in omega arith
-
-shorter_start : (best : Option Way) (w u : Way) → longer w best ≡ false → NotBeyond best u → w.prefix.count ≤ u.prefix.count
-shorter_start None w u e h = absurd (both_ways true e refl)
-shorter_start (Some b) w u e h = let l = ltb-false _ _ e in omega arith
-
-first_kept : (w u : Way) (ws : List Way) (card : Card) → fits w.prefix card ≡ true → w ≡ u → ContainsAt (w ∷ ws) u × (fits u.prefix card ≡ true)
-first_kept w u ws card f e = subst (λ v. ContainsAt (w ∷ ws) v × (fits v.prefix card ≡ true)) e (has_first w ws, f)
-
-took : (best : Option Way) (w : Way) (ws : List Way) (card : Card) (r : Option Way) → better w best card ≡ true → Ended (Some w) ws card r → Ended best (w ∷ ws) card r
-took best w ws card None b (e, a) = absurd (no_way w e)
-took best w ws card (Some u) b e =
-    let p = and_parts _ _ b in
+took : (b v w : Way) (ws : List Way) (card : Card) → better v (Some b) card ≡ true → Ends v ws card w → Ends b (v ∷ ws) card w
+took b v w ws card h e =
+    let p = and_parts _ _ h in
+    let l = ltb-true _ _ p.1 in
     record {
-      from = inr (⊎_elim (λ s. first_kept w u ws card p.0 (same_way w u s)) (λ h. (has_later u w ws h.0, h.1)) e.from);
-      most = ((λ f. e.start), e.most);
-      start = longer_start best w u p.1 e.start;
+      ends = ap (λ o. longest o ws card) (cond-true _ _ _ h) ∙ e.ends;
+      from = inr (found_first v w ws card p.0 e.from);
+      most = All-cons (NotBeyond card w) v ws (λ _. e.start) e.most;
+      start = omega arith;
     }
 
-left_out : (best : Option Way) (w : Way) (card : Card) → better w best card ≡ false → best ≡ None → fits w.prefix card ≡ false
-left_out None w card b e = ⊎_elim (λ f. f) (λ l. absurd (both_ways true l refl)) (and_cases _ _ b)
-left_out (Some v) w card b e = absurd (no_way v e)
+outdone : (b v w : Way) (card : Card) → better v (Some b) card ≡ false → b.prefix.count ≤ w.prefix.count → NotBeyond card w v
+outdone b v w card h s f = grind (arith, nat_tests)
 
-outdone : (best : Option Way) (w u : Way) (card : Card) → better w best card ≡ false → NotBeyond best u → fits w.prefix card ≡ true → w.prefix.count ≤ u.prefix.count
-outdone best w u card b s f = ⊎_elim (λ n. absurd (both_ways _ n f)) (λ l. shorter_start best w u l s) (and_cases _ _ b)
-
-went_by : (best : Option Way) (w : Way) (ws : List Way) (card : Card) (r : Option Way) → better w best card ≡ false → Ended best ws card r → Ended best (w ∷ ws) card r
-went_by best w ws card None b (e, a) = (e, (left_out best w card b e, a))
-went_by best w ws card (Some u) b e =
+went_by : (b v w : Way) (ws : List Way) (card : Card) → better v (Some b) card ≡ false → Ends b ws card w → Ends b (v ∷ ws) card w
+went_by b v w ws card h e =
     record {
-      from = ⊎_elim inl (λ h. inr (has_later u w ws h.0, h.1)) e.from;
-      most = (outdone best w u card b e.start, e.most);
+      ends = ap (λ o. longest o ws card) (cond-false _ _ _ h) ∙ e.ends;
+      from = ⊎_elim inl (λ k. inr (later v w ws card k)) e.from;
+      most = All-cons (NotBeyond card w) v ws (outdone b v w card h e.start) e.most;
       start = e.start;
     }
 
-ended : (best : Option Way) (ws : List Way) (card : Card) → Ended best ws card (longest best ws card)
-ended None [] card = (refl, tt)
-ended (Some b) [] card = record { from = inl refl; most = tt; start = omega arith }
-ended best (w ∷ ws) card =
+ended : (b : Way) (ws : List Way) (card : Card) → (w : Way) × Ends b ws card w
+ended b [] card =
+    (b, record { ends = refl; from = inl refl; most = All-nil (NotBeyond card b); start = omega arith })
+ended b (v ∷ ws) card =
     ⊎_elim
-    (λ b. subst (λ x. Ended best (w ∷ ws) card (longest x ws card)) (sym (cond-true _ _ _ b)) (took best w ws card _ b (ended (Some w) ws card)))
-    (λ b. subst (λ x. Ended best (w ∷ ws) card (longest x ws card)) (sym (cond-false _ _ _ b)) (went_by best w ws card _ b (ended best ws card)))
-    (cases_Bool (better w best card))
+    (λ h. let e = ended v ws card in (e.0, took b v e.0 ws card h e.1))
+    (λ h. let e = ended b ws card in (e.0, went_by b v e.0 ws card h e.1))
+    (cases_Bool (better v (Some b) card))
 
-all_near : (ws : List Way) → near ws ≡ true → AllByRecursion (λ w. w.issuer < 16) ws
-all_near [] e = tt
-all_near (w ∷ ws) e = let p = and_parts _ _ e in (ltb-true _ _ p.0, all_near ws p.1)
+-- a way that does not fit changes nothing
+issued_past : (v : Way) (ws : List Way) (card : Card) (r : Option ℕ) → fits v.prefix card ≡ false → Issued ws card r → Issued (v ∷ ws) card r
+issued_past v ws card None h n = All-cons (λ u. fits u.prefix card ≡ false) v ws h n
+issued_past v ws card (Some i) h (w, t, e) =
+    (w, record { kept = Contains-append_right (v ∷ []) ws w t.kept; begins = t.begins; most = All-cons (NotBeyond card w) v ws (λ f. absurd (cc)) t.most }, e)
 
-never_best : (w : Way) → None ≡ Some w → ⊥
-never_best w e = no_way w (sym e)
+issued_by : (v w : Way) (ws : List Way) (card : Card) → fits v.prefix card ≡ true → Ends v ws card w → Takes (v ∷ ws) card w
+issued_by v w ws card f e =
+    let k = found_first v w ws card f e.from in
+    record { kept = k.0; begins = k.1; most = All-cons (NotBeyond card w) v ws (λ _. e.start) e.most }
 
-takes : (ws : List Way) (card : Card) (w : Way) → Ends None ws card w → Takes ws card w
-takes ws card w e =
-    let h = ⊎_elim (λ s. absurd (never_best w s)) (λ k. k) e.from in
-    record { kept = h.0; begins = h.1; most = e.most }
-
-issued_from : (ws : List Way) (card : Card) (best : Option Way) → Ended None ws card best → Issued ws card (issuer_of best)
-issued_from ws card None e = e.1
-issued_from ws card (Some w) e = (w, takes ws card w e, refl)
-
-near_from : (ws : List Way) (card : Card) (best : Option Way) → near ws ≡ true → Ended None ws card best → IfSome (issuer_of best) (λ i. i < 16)
-near_from ws card None n e = tt
-near_from ws card (Some w) n e = all-has (λ v. v.issuer < 16) ws w (all_near ws n) (takes ws card w e).kept
+issued_all : (ws : List Way) (card : Card) → Issued ws card (route_of ws card)
+issued_all [] card = All-nil (λ v. fits v.prefix card ≡ false)
+issued_all (v ∷ ws) card =
+    ⊎_elim
+    (λ f. let e = ended v ws card in rw f (rw e.1.ends (e.0, issued_by v e.0 ws card f e.1, refl)))
+    (λ f. rw f (issued_past v ws card (route_of ws card) f (issued_all ws card)))
+    (cases_Bool (fits v.prefix card))
 
 pub issued : (ws : List Way) (card : Card) (r : Option ℕ) → r ≡ route_of ws card → Issued ws card r
-issued ws card r e = subst (λ x. Issued ws card x) (sym e) (issued_from ws card _ (ended None ws card))
+issued ws card r e = subst (Issued ws card) (sym e) (issued_all ws card)
 
-pub issuer_near : (ws : List Way) (card : Card) (r : Option ℕ) → near ws ≡ true → r ≡ route_of ws card → IfSome r (λ i. i < 16)
-issuer_near ws card r n e = subst (λ x. IfSome x (λ i. i < 16)) (sym e) (near_from ws card _ n (ended None ws card))
+issuer_kept : (ws : List Way) (card : Card) (r : Option ℕ) → All (λ w. w.issuer < 16) ws → Issued ws card r → IfSome r (λ i. i < 16)
+issuer_kept ws card None n i = tt
+issuer_kept ws card (Some i) n (w, t, e) = rw e (All-contains (λ v. v.issuer < 16) ws w n t.kept)
 
--- what the walk found tells the issuer
-pub told : (ws : List Way) (card : Card) (best : Option Way) → best ≡ longest None ws card → issuer_of best ≡ route_of ws card
-told ws card best e = ap issuer_of e
+pub issuer_near : (ws : List Way) (card : Card) (r : Option ℕ) → All (λ w. w.issuer < 16) ws → r ≡ route_of ws card → IfSome r (λ i. i < 16)
+issuer_near ws card r n e = issuer_kept ws card r n (issued ws card r e)

@@ -1,5 +1,3 @@
 pub mod Choosing
 pub mod Numerals
-pub mod Passing
-pub mod Placing
-pub mod Roads
+pub mod Places

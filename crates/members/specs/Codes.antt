@@ -1,19 +1,14 @@
 -- The banks of a switch, as a list of their codes.
-use Rattle.std.specs.Prelude.{ℕ, ◌+◌, Bool, cond, not, ◌&&◌, List, [], ◌∷◌, length, is_some, Some, None, Option, ◌==◌, nat_le, nat_lt, slice_index}
+use Rattle.std.specs.Prelude.{ℕ, Bool, not, ◌&&◌, List, length, is_some, Option, ◌==◌, nat_le, slice_get, position}
 use Rattle.members.specs.Each.{each}
 
--- the place of a code in a list that starts at place i
-abbrev pub place_from : ℕ → List ℕ → ℕ → Option ℕ
-place_from i [] code = None
-place_from i (c ∷ cs) code = cond (c == code) (Some i) (place_from (i + 1) cs code)
-
--- banks count from 0
+-- the place of a code; banks count from 0
 abbrev pub place_in : List ℕ → ℕ → Option ℕ
-place_in cs code = place_from 0 cs code
+place_in cs code = position (λ c. c == code) cs
 
 -- the code at a place
 abbrev pub code_at : List ℕ → ℕ → Option ℕ
-code_at cs i = cond (nat_lt i (length cs)) (Some (slice_index cs i)) None
+code_at cs i = slice_get cs i
 
 abbrev pub known : List ℕ → ℕ → Bool
 known cs code = is_some (place_in cs code)

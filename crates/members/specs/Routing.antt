@@ -1,7 +1,7 @@
 -- Routes from prefixes to banks, and the one that a card takes.
-use Rattle.std.specs.Prelude.{◌≡◌, ℕ, ◌≤◌, Bool, true, false, cond, not, ◌&&◌, ◌||◌, List, [], ◌∷◌, map, length, take, Some, None, Option, nat_le, nat_lt}
+use Rattle.std.specs.Prelude.{◌≡◌, ℕ, ◌≤◌, Bool, true, false, cond, not, ◌&&◌, List, length, Some, None, Option, nat_le, nat_lt}
 use Rattle.std.specs.Option.{unwrap_or}
-use Rattle.std.specs.List.{ContainsAt, AllByRecursion}
+use Rattle.std.specs.List.{All, Contains, list_any, fold}
 use Rattle.host.specs.declared.line.Card.{Card}
 use Rattle.members.specs.declared.prefix.Prefix.{Prefix}
 use Rattle.members.specs.declared.routes.Route.{Route}
@@ -12,8 +12,7 @@ use Rattle.members.specs.Prefixes.{formed, same_prefix, fits}
 
 -- some route has this prefix
 abbrev pub among : Prefix → List Route → Bool
-among p [] = false
-among p (r ∷ rs) = same_prefix r.prefix p || among p rs
+among p rs = list_any (λ r. same_prefix r.prefix p) rs
 
 -- a switch with these banks may have this route, beside those that come after it
 abbrev pub proper_route : List ℕ → Route → List Route → Bool
@@ -27,18 +26,6 @@ sound_routes codes rs = nat_le (length rs) 64 && each (proper_route codes) rs
 abbrev pub way_of : List ℕ → Route → Way
 way_of codes r = record { prefix = r.prefix; issuer = unwrap_or (place_in codes r.bank) 0 }
 
--- every issuer is one of 16 banks
-abbrev pub near : List Way → Bool
-near [] = true
-near (w ∷ ws) = nat_lt w.issuer 16 && near ws
-
--- routes at the front of an array of 64
-pub record Laid (codes : List ℕ) (rs : List Route) (all : List Way) : Type 0 where
-  pub full : length all ≡ 64
-  pub few : length rs ≤ 64
-  pub front : take (length rs) all ≡ map (way_of codes) rs
-  pub near : near (take (length rs) all) ≡ true
-
 -- a way has a longer prefix than the one found so far, if there is one
 abbrev pub longer : Way → Option Way → Bool
 longer w None = true
@@ -50,8 +37,7 @@ better w best card = fits w.prefix card && longer w best
 
 -- the way with the longest prefix that fits a card, of these and of one found before
 abbrev pub longest : Option Way → List Way → Card → Option Way
-longest best [] card = best
-longest best (w ∷ ws) card = longest (cond (better w best card) (Some w) best) ws card
+longest best ws card = fold (λ b w. cond (better w b card) (Some w) b) best ws
 
 abbrev pub issuer_of : Option Way → Option ℕ
 issuer_of None = None
@@ -63,11 +49,11 @@ route_of ws card = issuer_of (longest None ws card)
 
 -- one of these ways fits a card, and no other that fits has a longer prefix
 pub record Takes (ws : List Way) (card : Card) (w : Way) : Type 0 where
-  pub kept : ContainsAt ws w
+  pub kept : Contains ws w
   pub begins : fits w.prefix card ≡ true
-  pub most : AllByRecursion (λ v. fits v.prefix card ≡ true → v.prefix.count ≤ w.prefix.count) ws
+  pub most : All (λ v. fits v.prefix card ≡ true → v.prefix.count ≤ w.prefix.count) ws
 
 -- the issuer's place is that of the way that a card takes; none where no way fits
 abbrev pub Issued : List Way → Card → Option ℕ → Type 0
-Issued ws card None = AllByRecursion (λ v. fits v.prefix card ≡ false) ws
+Issued ws card None = All (λ v. fits v.prefix card ≡ false) ws
 Issued ws card (Some i) = (w : Way) × Takes ws card w × (i ≡ w.issuer)

@@ -1,10 +1,11 @@
-ghost use Rattle.std.specs.Prelude.{◌≡◌, ◌<◌, ◌≤◌, length, take, IfSome};
-ghost use Rattle.members.specs.Codes.{place_in, code_at, proper_code, sound_banks};
-ghost use Rattle.members.specs.Each.{each};
+ghost use Rattle.std.specs.Prelude.{◌≡◌, ◌<◌, ◌≤◌, cond, length, IfSome, Some, None};
+ghost use Rattle.members.specs.Codes.{place_in, code_at, proper_code};
 ghost use Rattle.members.specs.Members.{codes_of, Opened};
 
-use crate::banks::{Banks, MOST_BANKS};
+use crate::banks::Banks;
+use crate::keeping::all_kept;
 use elements::fault::SwitchFault;
+use std::alloc::AllocError;
 
 // The highest code that a bank can have: eleven digits.
 const HIGHEST_CODE: u64 = 99_999_999_999;
@@ -14,48 +15,14 @@ fn place_in(codes: &[u64], code: u64) -> Option<usize>
     ensures which { result ≡ place_in codes.now code }
     ensures within { IfSome result (λ i. i < length codes.now) }
 {
-    for (i, c) in codes.iter().enumerate() {
-        if *c == code {
-            return Some(i);
-        }
-    }
-    None
+    codes.iter().position(|c| *c == code)
 }
 
 // Whether a bank may have this code, beside those that come after it.
 fn proper(code: u64, later: &[u64]) -> bool
     ensures { result ≡ proper_code code later.now }
 {
-    1 <= code && code <= HIGHEST_CODE && place_in(later, code).is_none()
-}
-
-// Whether each bank may have its code.
-fn all_proper(codes: &[u64]) -> bool
-    ensures { result ≡ each proper_code codes.now }
-{
-    for (i, code) in codes.iter().enumerate() {
-        if !proper(*code, &codes[i + 1..]) {
-            return false;
-        }
-    }
-    true
-}
-
-// Whether a switch can be opened with these codes.
-fn sound(codes: &[u64]) -> bool
-    ensures { result ≡ sound_banks codes.now }
-{
-    1 <= codes.len() && codes.len() <= MOST_BANKS && all_proper(codes)
-}
-
-// The codes at the front of an array.
-fn laid_out(codes: &[u64]) -> [u64; MOST_BANKS]
-    requires { length codes.now ≤ 16 }
-    ensures { (length result ≡ 16) × (take (length codes.now) result ≡ codes.now) }
-{
-    let mut all = [0; MOST_BANKS];
-    all[..codes.len()].copy_from_slice(codes);
-    all
+    (1..=HIGHEST_CODE).contains(&code) && place_in(later, code).is_none()
 }
 
 impl Banks {
@@ -63,20 +30,19 @@ impl Banks {
     pub fn open(codes: &[u64]) -> Result<Banks, SwitchFault>
         ensures { Opened codes.now result }
     {
-        if !sound(codes) {
+        if codes.is_empty() {
             return Err(SwitchFault::Banks);
         }
-        Ok(Banks {
-            codes: laid_out(codes),
-            count: codes.len(),
-        })
+        let kept = all_kept(codes, |code, later| proper(*code, later).then_some(*code));
+        let codes = kept.ok_or(SwitchFault::Banks)?;
+        Ok(Banks { codes })
     }
 
     // How many they are.
     pub fn count(&self) -> usize
         ensures { (result ≡ length (codes_of self.now)) × ((1 ≤ result) × (result ≤ 16)) }
     {
-        self.count
+        self.codes.len()
     }
 
     // The place of the bank with this code.
@@ -84,8 +50,7 @@ impl Banks {
         ensures which { result ≡ place_in (codes_of self.now) code }
         ensures within { IfSome result (λ i. (i < 16) × (i < length (codes_of self.now))) }
     {
-        let count = self.count;
-        let place = place_in(&self.codes[..count], code)?;
+        let place = place_in(&self.codes, code)?;
         Some(place as u8)
     }
 
@@ -93,11 +58,17 @@ impl Banks {
     pub fn code(&self, place: u8) -> Option<u64>
         ensures { result ≡ code_at (codes_of self.now) place }
     {
-        let place = place as usize;
-        if place < self.count {
-            Some(self.codes[place])
-        } else {
-            None
-        }
+        self.codes.get(usize::from(place)).copied()
+    }
+}
+
+impl Clone for Banks {
+    ghost is_clone = { λ a b. b.codes.items ≡ a.codes.items };
+
+    ghost is_infallible = { λ _. Unit {0} };
+
+    fn clone(&self) -> Result<Banks, AllocError> {
+        let codes = self.codes.clone()?;
+        Ok(Banks { codes })
     }
 }

@@ -1,15 +1,14 @@
-ghost use Rattle.std.specs.Prelude.{◌≡◌, ◌≤◌, true, length, take};
+ghost use Rattle.std.specs.Prelude.{◌≡◌, true};
 ghost use Rattle.members.specs.Codes.{sound_banks};
+
+use arrayvec::ArrayVec;
 
 // How many banks there can be.
 pub const MOST_BANKS: usize = 16;
 
-// The codes of the banks, of which the first `count` count. Banks that exist can be opened: 1 to 16 codes, none twice.
-#[derive(Clone, Copy)]
+// The codes of the banks. Banks that exist can be opened: 1 to 16 codes, none twice.
+#[derive(Drop)]
 pub struct Banks {
-    pub(crate) codes: [u64; MOST_BANKS],
-    pub(crate) count: usize,
-    ghost room: { length codes ≡ 16 },
-    ghost few: { count ≤ 16 },
-    ghost sound: { sound_banks (take count codes) ≡ true },
+    pub(crate) codes: ArrayVec<u64, MOST_BANKS>,
+    ghost sound: { sound_banks codes.items ≡ true },
 }

@@ -3,6 +3,7 @@
 
 mod bank_list;
 pub mod banks;
+mod keeping;
 pub mod prefix;
 mod route_list;
 pub mod routes;

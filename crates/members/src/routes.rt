@@ -1,7 +1,7 @@
-ghost use Rattle.std.specs.Prelude.{◌≡◌, ◌≤◌, true, length, take};
-ghost use Rattle.members.specs.Routing.{near};
+ghost use Rattle.std.specs.Prelude.{◌<◌, All};
 
 use crate::prefix::Prefix;
+use arrayvec::ArrayVec;
 
 // How many routes there can be.
 pub const MOST_ROUTES: usize = 64;
@@ -13,19 +13,17 @@ pub struct Route {
     pub bank: u64,
 }
 
-// A route as it is kept, with the bank's place.
-#[derive(Clone, Copy)]
+// A route as it is kept, with the bank's place: a plain number, as the hosts and the books keep it. That it is one of 16
+// is said of the routes as a whole.
+#[derive(Clone, Copy, Default)]
 pub struct Way {
     pub prefix: Prefix,
     pub issuer: u8,
 }
 
-// The routes of a switch, of which the first `count` count.
-#[derive(Clone, Copy)]
+// The routes of a switch. Every issuer is one of 16 banks.
+#[derive(Drop)]
 pub struct Routes {
-    pub(crate) ways: [Way; MOST_ROUTES],
-    pub(crate) count: usize,
-    ghost room: { length ways ≡ 64 },
-    ghost few: { count ≤ 64 },
-    ghost banks: { near (take count ways) ≡ true },
+    pub(crate) ways: ArrayVec<Way, MOST_ROUTES>,
+    ghost banks: { All (λ w. w.issuer < 16) ways.items },
 }

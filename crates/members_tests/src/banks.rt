@@ -1,12 +1,11 @@
+use elements::fault::Refusal;
 use members::banks::Banks;
 use std::test::Fail;
 
-// The number that these codes are refused with, or 0 where they are taken.
-fn refused(codes: &[u64]) -> u8 {
-    match Banks::open(codes) {
-        Ok(_) => 0,
-        Err(fault) => fault.refusal().number,
-    }
+// Opens banks with these codes, or gives the number that they are refused with.
+fn open(codes: &[u64]) -> Result<(), u8> {
+    Banks::open(codes).map_err(|fault| Refusal::from(fault).number)?;
+    Ok(())
 }
 
 #[test]
@@ -29,22 +28,33 @@ fn banks_count_from_zero(rt: HostRuntime) -> Result<(), Fail> {
 
 #[test]
 fn one_to_sixteen_codes_are_taken(rt: HostRuntime) {
-    assert_eq!(rt; refused(&[7]), 0);
+    assert_eq!(rt; open(&[7]), Ok(()));
     assert_eq!(rt;
-        refused(&[1, 2, 3, 4, 5, 6, 7, 8, 9, 10, 11, 12, 13, 14, 15, 16]),
-        0
+        open(&[1, 2, 3, 4, 5, 6, 7, 8, 9, 10, 11, 12, 13, 14, 15, 16]),
+        Ok(())
     );
     assert_eq!(rt;
-        refused(&[1, 2, 3, 4, 5, 6, 7, 8, 9, 10, 11, 12, 13, 14, 15, 16, 17]),
-        15
+        open(&[1, 2, 3, 4, 5, 6, 7, 8, 9, 10, 11, 12, 13, 14, 15, 16, 17]),
+        Err(15)
     );
-    assert_eq!(rt; refused(&[]), 15);
+    assert_eq!(rt; open(&[]), Err(15));
 }
 
 #[test]
 fn codes_are_in_range_and_not_twice(rt: HostRuntime) {
-    assert_eq!(rt; refused(&[5, 0]), 15);
-    assert_eq!(rt; refused(&[100_000_000_000]), 15);
-    assert_eq!(rt; refused(&[5, 6, 5]), 15);
-    assert_eq!(rt; refused(&[5, 6, 55]), 0);
+    assert_eq!(rt; open(&[5, 0]), Err(15));
+    assert_eq!(rt; open(&[100_000_000_000]), Err(15));
+    assert_eq!(rt; open(&[5, 6, 5]), Err(15));
+    assert_eq!(rt; open(&[5, 6, 55]), Ok(()));
+}
+
+#[test]
+fn a_clone_has_the_same_banks(rt: HostRuntime) -> Result<(), Fail> {
+    let Ok(banks) = Banks::open(&[111, 222]) else {
+        return Err(Fail::new("refused"));
+    };
+    let copy = banks.clone()?;
+    assert_eq!(rt; copy.count(), 2);
+    assert_eq!(rt; copy.place(222), Some(1));
+    Ok(())
 }

@@ -1,7 +1,9 @@
+use elements::fault::{Refusal, SwitchFault};
 use host::line::Card;
 use members::banks::Banks;
 use members::prefix::Prefix;
 use members::routes::{Route, Routes};
+use std::array;
 use std::test::Fail;
 
 fn route(digits: u64, count: u8, bank: u64) -> Route {
@@ -13,15 +15,15 @@ fn card(digits: u64, count: u8) -> Card {
     Card { digits, count }
 }
 
-// The number that these routes are refused with between banks 111 and 222, or 0 where they are taken.
-fn refused(routes: &[Route]) -> u8 {
-    let Ok(banks) = Banks::open(&[111, 222]) else {
-        return 255;
-    };
-    match Routes::open(&banks, routes) {
-        Ok(_) => 0,
-        Err(fault) => fault.refusal().number,
-    }
+fn number_of(fault: SwitchFault) -> u8 {
+    Refusal::from(fault).number
+}
+
+// Opens these routes between banks 111 and 222, or gives the number that they are refused with.
+fn open(routes: &[Route]) -> Result<(), u8> {
+    let banks = Banks::open(&[111, 222]).map_err(number_of)?;
+    Routes::open(&banks, routes).map_err(number_of)?;
+    Ok(())
 }
 
 #[test]
@@ -70,41 +72,47 @@ fn leading_zeros_count(rt: HostRuntime) -> Result<(), Fail> {
 
 #[test]
 fn routes_that_are_refused(rt: HostRuntime) {
-    assert_eq!(rt; refused(&[]), 0, "no routes are fine");
-    assert_eq!(rt; refused(&[route(99_999_999, 8, 111), route(0, 1, 222)]), 0);
-    assert_eq!(rt; refused(&[route(100_000_000, 9, 111)]), 16, "nine digits");
-    assert_eq!(rt; refused(&[route(0, 0, 111)]), 16, "no digit");
+    assert_eq!(rt; open(&[]), Ok(()), "no routes are fine");
     assert_eq!(rt;
-        refused(&[route(10, 1, 111)]),
-        16,
+        open(&[route(99_999_999, 8, 111), route(0, 1, 222)]),
+        Ok(())
+    );
+    assert_eq!(rt; open(&[route(100_000_000, 9, 111)]), Err(16), "nine digits");
+    assert_eq!(rt; open(&[route(0, 0, 111)]), Err(16), "no digit");
+    assert_eq!(rt;
+        open(&[route(10, 1, 111)]),
+        Err(16),
         "two digits said to be one"
     );
     assert_eq!(rt;
-        refused(&[route(5, 1, 111), route(5, 1, 222)]),
-        16,
+        open(&[route(5, 1, 111), route(5, 1, 222)]),
+        Err(16),
         "one prefix twice"
     );
-    assert_eq!(rt; refused(&[route(5, 1, 333)]), 16, "a bank unknown");
+    assert_eq!(rt; open(&[route(5, 1, 333)]), Err(16), "a bank unknown");
 }
 
-// Gives the routes the prefixes 00, 01, 02 and so on.
-fn number(routes: &mut [Route]) {
-    for (i, r) in routes.iter_mut().enumerate() {
-        *r = route(i as u64, 2, 222);
-    }
-}
-
-fn refused_but_last(routes: &[Route]) -> u8 {
-    match routes {
-        [] => 255,
-        [front @ .., _] => refused(front),
-    }
+// Routes with the prefixes 00, 01, 02 and so on.
+fn numbered<const N: usize>() -> [Route; N] {
+    array::from_fn(|i| route(i as u64, 2, 222))
 }
 
 #[test]
 fn sixty_four_routes_are_taken(rt: HostRuntime) {
-    let mut routes = [route(0, 2, 111); 65];
-    number(&mut routes);
-    assert_eq!(rt; refused_but_last(&routes), 0);
-    assert_eq!(rt; refused(&routes), 16);
+    assert_eq!(rt; open(&numbered::<64>()), Ok(()));
+    assert_eq!(rt; open(&numbered::<65>()), Err(16));
+}
+
+#[test]
+fn a_clone_has_the_same_routes(rt: HostRuntime) -> Result<(), Fail> {
+    let Ok(banks) = Banks::open(&[111, 222]) else {
+        return Err(Fail::new("banks refused"));
+    };
+    let Ok(routes) = Routes::open(&banks, &[route(5, 1, 222)]) else {
+        return Err(Fail::new("routes refused"));
+    };
+    let copy = routes.clone()?;
+    assert_eq!(rt; copy.count(), 1);
+    assert_eq!(rt; copy.issuer(&card(5_000_000_000_000_001, 16)), Some(1));
+    Ok(())
 }

@@ -1,13 +1,14 @@
 -- The table allows every element of a reply.
+use Rattle.std.proofs.lemmas.Bool.Decides.{nat_tests}
 use Rattle.std.proofs.Common.{◌≡◌, ℕ, zero, suc, ◌<◌, ◌≤◌, true, List, [], ◌∷◌, map, length, get_or, drop, Some, None, Ok, Err, Option, Result, sym, refl, ap, ◌∙◌, subst, ⊎_elim, arith}
-use Rattle.std.proofs.lemmas.Bool.{cond-true, cond-false, cases_Bool, eq-eqb, ne_eqb}
+use Rattle.std.proofs.lemmas.Bool.{cond-true, cond-false, cases_Bool, ne_eqb}
 use Rattle.elements.specs.declared.fault.MessageFault.{MessageFault}
 use Rattle.elements.specs.declared.table.Row.{Row}
-use Rattle.elements.specs.Table.{table, blank, admits, fits}
+use Rattle.elements.specs.Table.{table, blank}
 use Rattle.elements.proofs.Rows.{proper, proper_first, proper_table, in_range}
 use Rattle.iso8583.specs.declared.found.Found.{Found}
 use Rattle.iso8583.specs.Bitmap.{marked}
-use Rattle.iso8583.specs.Reading.{Parts, after, body, elements, reading, wrong}
+use Rattle.iso8583.specs.Reading.{Parts, after, body, elements, reading}
 use Rattle.iso8583.proofs.Presence.{Whole, taken_apart}
 use Rattle.composer.specs.Contents.{Item, item_of, content}
 use Rattle.composer.specs.Writing.{chosen, head}
@@ -51,14 +52,7 @@ never_some {A} {x} {o} p q = let z : ◌≡◌ {A = ℕ} 0 1 = cc in omega arith
 
 -- the first row's element is there with characters that the row allows
 first_allowed : (row : Row) (i : Item) (is : List Item) (cs : List ℕ) → Matches row i → chars_of (i ∷ is) row.element ≡ Some cs → Matches row (with_chars row.element cs)
-first_allowed row i is cs m h =
-    let here : Some i.chars ≡ Some cs = sym (cond-true _ _ _ (eq-eqb i.number row.element m.number)) ∙ h in
-    let same : i.chars ≡ cs = cc in
-    record {
-      number = refl;
-      admitted = ap (λ l. admits row.length (length l)) (sym same) ∙ m.admitted;
-      fitting = ap (λ l. wrong (fits row.format) (length l) 0 l) (sym same) ∙ m.fitting;
-    }
+first_allowed row i is cs m h = grind (arith, nat_tests)
 
 -- elements that were put for rows are there with characters that the rows allow
 matched : (rows : List Row) (low bits : ℕ) (is : List Item) → proper low rows ≡ true → Filled (chosen rows bits) is → (j : ℕ) (cs : List ℕ) → j < length rows → chars_of is (get_or rows j blank).element ≡ Some cs → Matches (get_or rows j blank) (with_chars (get_or rows j blank).element cs)

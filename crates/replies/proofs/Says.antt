@@ -1,13 +1,13 @@
 -- The bytes of a reply, read: they say what a reply has to say.
+use Rattle.std.proofs.lemmas.Bool.Decides.{nat_tests}
 use Rattle.std.proofs.Common.{◌≡◌, ℕ, zero, suc, ◌+◌, ◌/◌, ◌%◌, ◌^◌, ◌<◌, ◌≤◌, Bool, true, false, cond, ◌&&◌, eqb, leb, List, [], ◌∷◌, ◌++◌, map, length, get_or, drop, is_some, Some, None, Ok, Option, sym, refl, ap, ◌∙◌, subst, ⊎_elim, arith}
 use Rattle.std.proofs.lemmas.List.{length-append}
-use Rattle.std.proofs.lemmas.Bool.{cond-true, cond-false, cases_Bool, cases_eq, eqb-true, both_ways, or_left, and_from, and_parts, le-leb, leb-true}
+use Rattle.std.proofs.lemmas.Bool.{cond-true, cond-false, cases_Bool, cases_eq, eqb-true, both_ways, and_parts, leb-true}
 use Rattle.elements.specs.declared.table.Format.{Format}
-use Rattle.elements.specs.declared.table.Format.TheVariants.{Numeric, Alphanumeric, Printable}
 use Rattle.elements.specs.declared.table.Length.{Length}
 use Rattle.elements.specs.declared.table.Length.TheVariants.{Fixed, UpTo}
 use Rattle.elements.specs.declared.table.Row.{Row}
-use Rattle.elements.specs.Table.{table, blank, admits, fits, decimal}
+use Rattle.elements.specs.Table.{table, blank, admits, fits}
 use Rattle.elements.specs.Fields.{field}
 use Rattle.elements.proofs.Rows.{proper_table, in_table}
 use Rattle.iso8583.specs.Bitmap.{marked}
@@ -26,15 +26,8 @@ use Rattle.replies.proofs.Along.{with_chars, along, Fit, fills, text_along, repl
 use Rattle.replies.proofs.Allowed.{came_allowed}
 
 -- every format takes digits
-digits_fit : (f : Format) (c : ℕ) → decimal c ≡ true → fits f c ≡ true
-digits_fit Numeric c t = t
-digits_fit Alphanumeric c t = or_left _ _ (or_left _ _ t)
-digits_fit Printable c t =
-    let p = and_parts (leb 48 c) (leb c 57) t in
-    and_from _ _ (le-leb 32 c (omega (arith, leb-true 48 c p.0))) (le-leb c 126 (omega (arith, leb-true c 57 p.1)))
-
 digit_fits : (f : Format) (d : ℕ) → d < 10 → fits f (48 + d) ≡ true
-digit_fits f d h = digits_fit f (48 + d) (and_from _ _ (le-leb 48 (48 + d) (omega arith)) (le-leb (48 + d) 57 (omega arith)))
+digit_fits f d h = grind (arith, nat_tests)
 
 -- a row for the response code has room for two characters
 takes_two : Row → Bool
@@ -101,7 +94,7 @@ module _ (bs : List ℕ) (code : ℕ) (small : code ≤ 99) where
   unsaid k f = cond-false _ _ _ f
 
   there : (k : ℕ) → is_some (says k) ≡ true → listed replied k ≡ true
-  there k h = ⊎_elim (λ t. t) (λ f. absurd (both_ways (is_some (says k)) (ap is_some (unsaid k f)) h)) (cases_Bool (listed replied k))
+  there k h = grind (arith, nat_tests)
 
   bit_at : (k : ℕ) → 1 ≤ k → k ≤ 128 → marked bits k ≡ is_some (says k)
   unfolding bitmap

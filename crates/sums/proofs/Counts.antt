@@ -1,5 +1,5 @@
 -- One more transaction, at its place and in the sums.
-use Rattle.std.proofs.Common.{◌≡◌, ℕ, ◌+◌, ◌<◌, ◌≤◌, Bool, true, false, cond, ◌&&◌, eqb, List, length, sym, refl, ap, ◌∙◌, add-zero}
+use Rattle.std.proofs.Common.{◌≡◌, ℕ, ◌+◌, cond, ◌&&◌, eqb, List, length, ap, ◌∙◌, arith}
 use mathlib.Core.Path.{fun_ext}
 use Rattle.host.specs.declared.line.Side.{Side}
 use Rattle.host.specs.declared.line.Side.TheVariants.{Debit, Credit}
@@ -8,9 +8,10 @@ use Rattle.sums.specs.Sums.{number_of, amount_of, Figure, approvals, reversals, 
 use Rattle.sums.specs.Tables.{figures_at, figure_in, table_sums, Square}
 use Rattle.sums.specs.declared.figures.Figures.{Figures}
 use Rattle.sums.specs.declared.figures.Kind.{Kind}
+use Rattle.sums.specs.declared.payment.Payment.{Payment}
 use Rattle.sums.specs.declared.figures.Kind.TheVariants.{Approval, Reversal}
 use Rattle.sums.proofs.Placed.{placed, in_rows, in_columns, grows}
-use Rattle.sums.proofs.Within.{approved_more, approved_stays, reversed_more, reversed_stays}
+use Rattle.sums.proofs.Within.{approved_more, reversed_more}
 
 -- what a transaction adds to a figure
 abbrev added : Kind → Side → ℕ → Figure → ℕ
@@ -19,58 +20,35 @@ added Approval side amount (reversals m) = 0
 added Reversal side amount (approvals m) = 0
 added Reversal side amount (reversals m) = worth m side amount
 
-unadded : (n : ℕ) → n ≡ n + 0
-unadded n = sym (add-zero n)
-
 counting_adds : (x : Figures) (kind : Kind) (side : Side) (amount : ℕ) (f : Figure) → figure_in (counting x kind side amount) f ≡ figure_in x f + added kind side amount f
-counting_adds x Approval Debit amount (approvals (number_of Debit)) = refl
-counting_adds x Approval Debit amount (approvals (number_of Credit)) = unadded _
-counting_adds x Approval Debit amount (approvals (amount_of Debit)) = refl
-counting_adds x Approval Debit amount (approvals (amount_of Credit)) = unadded _
-counting_adds x Approval Credit amount (approvals (number_of Debit)) = unadded _
-counting_adds x Approval Credit amount (approvals (number_of Credit)) = refl
-counting_adds x Approval Credit amount (approvals (amount_of Debit)) = unadded _
-counting_adds x Approval Credit amount (approvals (amount_of Credit)) = refl
-counting_adds x Approval Debit amount (reversals m) = unadded _
-counting_adds x Approval Credit amount (reversals m) = unadded _
-counting_adds x Reversal Debit amount (reversals (number_of Debit)) = refl
-counting_adds x Reversal Debit amount (reversals (number_of Credit)) = unadded _
-counting_adds x Reversal Debit amount (reversals (amount_of Debit)) = refl
-counting_adds x Reversal Debit amount (reversals (amount_of Credit)) = unadded _
-counting_adds x Reversal Credit amount (reversals (number_of Debit)) = unadded _
-counting_adds x Reversal Credit amount (reversals (number_of Credit)) = refl
-counting_adds x Reversal Credit amount (reversals (amount_of Debit)) = unadded _
-counting_adds x Reversal Credit amount (reversals (amount_of Credit)) = refl
-counting_adds x Reversal Debit amount (approvals m) = unadded _
-counting_adds x Reversal Credit amount (approvals m) = unadded _
-
-nothing_added : (b : Bool) (n : ℕ) → n + cond b 0 0 ≡ n
-nothing_added true n = add-zero n
-nothing_added false n = add-zero n
+counting_adds x kind side amount f = grind arith
 
 -- the sums of a table with one more transaction
-module _ (t : List (List Figures)) (p q : ℕ) (side : Side) (amount : ℕ) (x : Figures) (full : length t ≡ 16) (square : Square t) (row : p < 16) (column : q < 16) where
-  grown : (kind : Kind) → x ≡ counting (figures_at t p q) kind side amount → (f : Figure) (i j : ℕ) → table_sums (placed t p q x) f i j ≡ table_sums t f i j + cond (eqb i p && eqb j q) (added kind side amount f) 0
+module _ (t : List (List Figures)) (a : Payment) (x : Figures) (full : length t ≡ 16) (square : Square t) where
+  abbrev after : Sums
+  after = table_sums (placed t a.acquirer a.issuer x)
+
+  abbrev Counts : Kind → Type 0
+  Counts kind = x ≡ counting (figures_at t a.acquirer a.issuer) kind a.side a.amount
+
+  grown : (kind : Kind) → Counts kind → (f : Figure) (i j : ℕ) → after f i j ≡ table_sums t f i j + cond (eqb i a.acquirer && eqb j a.issuer) (added kind a.side a.amount f) 0
   grown kind is =
-      grows t p q x (added kind side amount) (in_rows t p full row) (in_columns t p q square row column) (λ f. ap (λ (y : Figures). figure_in y f) is ∙ counting_adds (figures_at t p q) kind side amount f)
+      grows t a.acquirer a.issuer x (added kind a.side a.amount) (in_rows t a.acquirer full a.banks.0) (in_columns t a.acquirer a.issuer square a.banks.0 a.banks.1) (λ f. ap (λ (y : Figures). figure_in y f) is ∙ counting_adds (figures_at t a.acquirer a.issuer) kind a.side a.amount f)
 
-  each : (kind : Kind) → x ≡ counting (figures_at t p q) kind side amount → (f : Figure) (i j : ℕ) → table_sums (placed t p q x) f i j ≡ with_one kind (table_sums t) p q side amount f i j
-  each Approval is (approvals m) i j = grown Approval is (approvals m) i j
-  each Approval is (reversals m) i j = grown Approval is (reversals m) i j ∙ nothing_added _ _
-  each Reversal is (approvals m) i j = grown Reversal is (approvals m) i j ∙ nothing_added _ _
-  each Reversal is (reversals m) i j = grown Reversal is (reversals m) i j
+  each : (kind : Kind) → Counts kind → (f : Figure) (i j : ℕ) → after f i j ≡ with_one kind (table_sums t) a f i j
+  each kind is f i j = let g = grown kind is f i j in grind arith
 
-  pub counted_placed : (kind : Kind) → x ≡ counting (figures_at t p q) kind side amount → table_sums (placed t p q x) ≡ with_one kind (table_sums t) p q side amount
+  pub counted_placed : (kind : Kind) → Counts kind → after ≡ with_one kind (table_sums t) a
   counted_placed kind is = fun_ext (λ f. fun_ext (λ i. fun_ext (λ j. each kind is f i j)))
 
 -- the day's limit stays
-pub approved_after : (kind : Kind) (s : Sums) (acquirer issuer : ℕ) (side : Side) (amount : ℕ) → amount ≤ 1000000000000 → Room kind s → ApprovedWithin 512 s → ApprovedWithin 512 (with_one kind s acquirer issuer side amount)
-approved_after Approval s acquirer issuer side amount small room within = approved_more 511 s acquirer issuer side amount small room
-approved_after Reversal s acquirer issuer side amount small room within = approved_stays 512 s acquirer issuer side amount within
+pub approved_after : (kind : Kind) (s : Sums) (a : Payment) → Room kind s → ApprovedWithin 512 s → ApprovedWithin 512 (with_one kind s a)
+approved_after Approval s a room within = approved_more 511 s a.acquirer a.issuer a.side a.amount a.small room
+approved_after Reversal s a room within = within
 
-pub reversed_after : (kind : Kind) (s : Sums) (acquirer issuer : ℕ) (side : Side) (amount : ℕ) → amount ≤ 1000000000000 → Room kind s → ReversedWithin 512 s → ReversedWithin 512 (with_one kind s acquirer issuer side amount)
-reversed_after Approval s acquirer issuer side amount small room within = reversed_stays 512 s acquirer issuer side amount within
-reversed_after Reversal s acquirer issuer side amount small room within = reversed_more 511 s acquirer issuer side amount small room
+pub reversed_after : (kind : Kind) (s : Sums) (a : Payment) → Room kind s → ReversedWithin 512 s → ReversedWithin 512 (with_one kind s a)
+reversed_after Approval s a room within = within
+reversed_after Reversal s a room within = reversed_more 511 s a.acquirer a.issuer a.side a.amount a.small room
 
 -- a place holds no more than the sums of its table
 pub room_holds : (kind : Kind) (t : List (List Figures)) (p q : ℕ) (side : Side) → Room kind (table_sums t) → Holds 511 (tally_in (figures_at t p q) kind side)

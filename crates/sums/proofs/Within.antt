@@ -1,30 +1,16 @@
 -- How many transactions the figures hold at most.
-use Rattle.std.proofs.Common.{ℕ, ◌+◌, ◌≤◌, true, false, cond, ◌&&◌, eqb, arith}
+use Rattle.std.proofs.Common.{ℕ, ◌+◌, ◌≤◌, arith}
 use Rattle.host.specs.declared.line.Side.{Side}
-use Rattle.host.specs.declared.line.Side.TheVariants.{Debit, Credit}
-use Rattle.sums.specs.Sums.{Measure, number_of, amount_of, Sums, approvals, reversals, on_side, worth, share, no_sums, with_approval, with_reversal, most, ApprovedWithin, ReversedWithin}
-
-on_side_most : (measured side : Side) (n k : ℕ) → n ≤ k → on_side measured side n ≤ k
-on_side_most Debit Debit n k h = h
-on_side_most Debit Credit n k h = omega arith
-on_side_most Credit Debit n k h = omega arith
-on_side_most Credit Credit n k h = h
-
-worth_most : (m : Measure) (side : Side) (amount : ℕ) → amount ≤ 1000000000000 → worth m side amount ≤ most m 1
-worth_most (number_of measured) side amount h = on_side_most measured side 1 1 (omega arith)
-worth_most (amount_of measured) side amount h = on_side_most measured side amount 1000000000000 h
+use Rattle.sums.specs.Sums.{Measure, Sums, approvals, reversals, share, no_sums, with_approval, with_reversal, most, ApprovedWithin, ReversedWithin}
 
 share_most : (m : Measure) (acquirer issuer : ℕ) (side : Side) (amount p q : ℕ) → amount ≤ 1000000000000 → share m acquirer issuer side amount p q ≤ most m 1
-share_most m acquirer issuer side amount p q h =
-    elim (eqb p acquirer && eqb q issuer) as (λ b. cond b (worth m side amount) 0 ≤ most m 1) [ true ↦ worth_most m side amount h | false ↦ omega arith ]
+share_most m acquirer issuer side amount p q h = grind arith
 
 one_above : (m : Measure) (n figure more : ℕ) → figure ≤ most m n → more ≤ most m 1 → figure + more ≤ most m (n + 1)
-one_above (number_of measured) n figure more h k = omega arith
-one_above (amount_of measured) n figure more h k = omega arith
+one_above m n figure more h k = grind arith
 
 most_rises : (m : Measure) (n k : ℕ) → n ≤ k → most m n ≤ most m k
-most_rises (number_of measured) n k h = h
-most_rises (amount_of measured) n k h = omega arith
+most_rises m n k h = grind arith
 
 -- an approval is one transaction more
 pub approved_more : (n : ℕ) (s : Sums) (acquirer issuer : ℕ) (side : Side) (amount : ℕ) → amount ≤ 1000000000000 → ApprovedWithin n s → ApprovedWithin (n + 1) (with_approval s acquirer issuer side amount)
@@ -32,13 +18,6 @@ approved_more n s acquirer issuer side amount h within m p q = one_above m n (s 
 
 pub reversed_more : (n : ℕ) (s : Sums) (acquirer issuer : ℕ) (side : Side) (amount : ℕ) → amount ≤ 1000000000000 → ReversedWithin n s → ReversedWithin (n + 1) (with_reversal s acquirer issuer side amount)
 reversed_more n s acquirer issuer side amount h within m p q = one_above m n (s (reversals m) p q) (share m acquirer issuer side amount p q) (within m p q) (share_most m acquirer issuer side amount p q h)
-
--- neither adds to the figures of the other
-pub approved_stays : (n : ℕ) (s : Sums) (acquirer issuer : ℕ) (side : Side) (amount : ℕ) → ApprovedWithin n s → ApprovedWithin n (with_reversal s acquirer issuer side amount)
-approved_stays n s acquirer issuer side amount within = within
-
-pub reversed_stays : (n : ℕ) (s : Sums) (acquirer issuer : ℕ) (side : Side) (amount : ℕ) → ReversedWithin n s → ReversedWithin n (with_approval s acquirer issuer side amount)
-reversed_stays n s acquirer issuer side amount within = within
 
 pub none_approved : ApprovedWithin 0 no_sums
 none_approved m p q = omega arith

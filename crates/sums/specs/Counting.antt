@@ -1,4 +1,4 @@
--- What the private steps of a count do.
+-- What a count does, and its steps.
 use Rattle.std.specs.Prelude.{ℕ, ◌+◌, ◌*◌, ◌≤◌, ℤ, pos, ◌+ℤ◌, ◌-ℤ◌, neg_ℤ, ◌≤ℤ◌}
 use Rattle.host.specs.declared.line.Side.{Side}
 use Rattle.host.specs.declared.line.Side.TheVariants.{Debit, Credit}
@@ -8,6 +8,7 @@ use Rattle.sums.specs.declared.figures.Kind.{Kind}
 use Rattle.sums.specs.declared.figures.Kind.TheVariants.{Approval, Reversal}
 use Rattle.sums.specs.declared.figures.Tally.{Tally}
 use Rattle.sums.specs.declared.figures.Figures.{Figures}
+use Rattle.sums.specs.declared.payment.Payment.{Payment}
 
 -- no more than n transactions
 pub record Holds (n : ℕ) (t : Tally) : Type 0 where
@@ -50,9 +51,9 @@ counting x Reversal Debit amount =
     record { credits = x.credits; credit_reversals = x.credit_reversals; debits = x.debits; debit_reversals = one_more x.debit_reversals amount }
 
 -- the sums with one more
-abbrev pub with_one : Kind → Sums → ℕ → ℕ → Side → ℕ → Sums
-with_one Approval s acquirer issuer side amount = with_approval s acquirer issuer side amount
-with_one Reversal s acquirer issuer side amount = with_reversal s acquirer issuer side amount
+abbrev pub with_one : Kind → Sums → Payment → Sums
+with_one Approval s x = with_approval s x.acquirer x.issuer x.side x.amount
+with_one Reversal s x = with_reversal s x.acquirer x.issuer x.side x.amount
 
 -- room for one more
 abbrev pub Room : Kind → Sums → Type 0

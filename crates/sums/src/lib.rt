@@ -3,3 +3,4 @@
 
 pub mod day;
 pub mod figures;
+pub mod payment;

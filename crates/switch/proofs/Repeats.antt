@@ -22,6 +22,6 @@ repeated_small Reversed false code h = omega arith
 
 pub repeat_small : (e : Entry) (same : Bool) → small e ≡ true → repeated e.state same e.code ≤ 99
 repeat_small e same h =
-    let p = and_parts (ltb e.number (16 * 10 ^ 16) && ltb e.issuer 16 && ltb e.code 100) (ltb e.amount (10 ^ 12)) h in
+    let p = and_parts (ltb e.number (16 * 10 ^ 16) && ltb e.issuer 16 && ltb e.code 100) (ltb e.terms.amount (10 ^ 12)) h in
     let q = and_parts (ltb e.number (16 * 10 ^ 16) && ltb e.issuer 16) (ltb e.code 100) p.0 in
     repeated_small e.state same e.code (omega (arith, ltb-true e.code 100 q.1))

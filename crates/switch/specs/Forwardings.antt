@@ -5,7 +5,7 @@ use Rattle.host.specs.declared.ask.PostAnswer.{PostAnswer}
 use Rattle.host.specs.declared.ask.PostAnswer.TheVariants as posting
 use Rattle.host.specs.declared.ask.ReverseAnswer.{ReverseAnswer}
 use Rattle.host.specs.declared.ask.ReverseAnswer.TheVariants as reversing
-use Rattle.journal.specs.Entries.{details, in_state}
+use Rattle.journal.specs.Entries.{details, in_state, key_of}
 use Rattle.journal.specs.Places.{Unsettled, Next}
 use Rattle.journal.specs.declared.entry.Entry.{Entry}
 use Rattle.journal.specs.declared.entry.State.{State as Standing}
@@ -55,7 +55,7 @@ pub record Puts (s : State) (n : ℕ) (answer : PostAnswer) (t : State) : Type 0
   pub turned : Meaning
   pub turn : Turns s.host turned
   pub after : Meaning
-  pub posts : Posts turned entry.issuer n (details entry) true answer after
+  pub posts : Posts turned (key_of entry) (details entry) true answer after
   pub state : t ≡ with s (forwarded s.books place (in_state (once_put answer) entry)) after
 
 -- the next entry is owed: it is reversed
@@ -68,21 +68,21 @@ pub record Undoes (s : State) (n : ℕ) (answer : ReverseAnswer) (t : State) : T
   pub turned : Meaning
   pub turn : Turns s.host turned
   pub after : Meaning
-  pub reverses : Reverses turned entry.issuer n answer after
+  pub reverses : Reverses turned (key_of entry) answer after
   pub state : t ≡ with s (forwarded s.books place (in_state (once_undone answer) entry)) after
 
 -- the ask alone, once the turn was given
 pub record PutNow (s : State) (place : ℕ) (e : Entry) (told : Told) (t : State) : Type 0 where
   pub answer : PostAnswer
   pub after : Meaning
-  pub posts : Posts s.host e.issuer e.number (details e) true answer after
+  pub posts : Posts s.host (key_of e) (details e) true answer after
   pub tells : told ≡ record { number = e.number; state = once_put answer }
   pub state : t ≡ with s (forwarded s.books place (in_state (once_put answer) e)) after
 
 pub record UndoneNow (s : State) (place : ℕ) (e : Entry) (told : Told) (t : State) : Type 0 where
   pub answer : ReverseAnswer
   pub after : Meaning
-  pub reverses : Reverses s.host e.issuer e.number answer after
+  pub reverses : Reverses s.host (key_of e) answer after
   pub tells : told ≡ record { number = e.number; state = once_undone answer }
   pub state : t ≡ with s (forwarded s.books place (in_state (once_undone answer) e)) after
 

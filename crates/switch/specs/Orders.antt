@@ -6,7 +6,7 @@ use Rattle.intake.specs.declared.order.Presentment.{Presentment}
 use Rattle.intake.specs.declared.order.Reversal.{Reversal}
 use Rattle.journal.specs.declared.entry.Terms.{Terms}
 use Rattle.switch.specs.Handled.{Does}
-use Rattle.switch.specs.Requests.{Said, Requested, ByKind, Presents}
+use Rattle.switch.specs.Requests.{Said, ByKind, Presents}
 use Rattle.switch.specs.Reversals.{TakesBack}
 use Rattle.switch.specs.States.{State}
 
@@ -15,9 +15,6 @@ pub record Coded (Comes : Said → Type 0) (code : ℕ) : Type 0 where
   pub asked : Option PostAnswer
   pub comes : Comes (record { code = code; asked = asked })
   pub small : code ≤ 99
-
-abbrev pub RequestedSo : State → ℕ → ℕ → ℕ → Terms → ℕ → State → Type 0
-RequestedSo s number issuer place x code t = Coded (λ r. Requested s number issuer place x r t) code
 
 -- the numbers of a new entry are not too large
 pub record Fits (number issuer : ℕ) (x : Terms) : Type 0 where

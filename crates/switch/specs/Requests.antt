@@ -51,7 +51,7 @@ entry_by number issuer x answer = entered number issuer x (state_by answer) (cod
 pub record Requested (s : State) (number issuer place : ℕ) (x : Terms) (r : Said) (t : State) : Type 0 where
   pub answer : PostAnswer
   pub after : Meaning
-  pub posts : Posts s.host issuer number (details_of x) false answer after
+  pub posts : Posts s.host (record { issuer = issuer; number = number }) (details_of x) false answer after
   pub said : r ≡ record { code = code_by answer; asked = Some answer }
   pub state : t ≡ entering s place (entry_by number issuer x answer) after
 

@@ -1,14 +1,16 @@
 // Forwarding: what waits or is owed is put to its host, one entry at a time, round the journal.
 ghost use Rattle.std.specs.Prelude.{◌≡◌};
+ghost use Rattle.books.specs.Ledgers.{forwarded};
+ghost use Rattle.journal.specs.Entries.{in_state, undone};
 ghost use Rattle.journal.specs.Places.{Next};
 ghost use Rattle.journal.specs.declared.entry.State.TheVariants.{Waiting, Owed};
 ghost use Rattle.switch.specs.Forwardings.{once_put, once_undone, PutNow, UndoneNow, Forwarded};
-ghost use Rattle.switch.specs.States.{view};
+ghost use Rattle.switch.specs.States.{view, with};
 
 use crate::switch::Switch;
 use host::Host;
 use host::ask::{PostAnswer, ReverseAnswer};
-use journal::entry::{Entry, State};
+use journal::entry::{Held, State};
 
 // What a forwarding tells: a transaction, and where it stands now.
 #[derive(Clone, Copy)]
@@ -38,36 +40,40 @@ fn once_undone(answer: ReverseAnswer) -> State
 }
 
 impl<H: Host> Switch<H> {
-    // Posts a waiting entry, which must stand: its amount has been paid out.
-    fn put(&mut self, place: usize, entry: &Entry) -> Told
-        requires next { Next (view H.meaning self.old).books.places (view H.meaning self.old).books.mark place entry.now }
-        requires waits { entry.now.state ≡ Waiting }
-        ensures { PutNow (view H.meaning self.old) place entry.now result (view H.meaning self.new) }
+    // An entry is in this state, now that its host was asked.
+    fn settle(&mut self, held: Held, state: State) -> Told
+        requires next { Next (view H.meaning self.old).books.places (view H.meaning self.old).books.mark held.place held.entry }
+        requires kept { undone state ≡ undone held.entry.state }
+        ensures told { result ≡ record { number = held.entry.number; state = state } }
+        ensures state { view H.meaning self.new ≡ with (view H.meaning self.old) (forwarded (view H.meaning self.old).books held.place (in_state state held.entry)) (view H.meaning self.old).host }
     {
-        let answer = self
-            .host
-            .post(entry.issuer, entry.number, entry.details(), true);
-        let state = once_put(answer);
-        self.books.forward(place, entry, state);
+        self.books.forward(held, state);
         Told {
-            number: entry.number,
+            number: held.entry.number,
             state,
         }
     }
 
-    // Takes an owed entry back.
-    fn undo(&mut self, place: usize, entry: &Entry) -> Told
-        requires next { Next (view H.meaning self.old).books.places (view H.meaning self.old).books.mark place entry.now }
-        requires owes { entry.now.state ≡ Owed }
-        ensures { UndoneNow (view H.meaning self.old) place entry.now result (view H.meaning self.new) }
+    // Posts a waiting entry, which must stand: its amount has been paid out.
+    fn put(&mut self, held: Held) -> Told
+        requires next { Next (view H.meaning self.old).books.places (view H.meaning self.old).books.mark held.place held.entry }
+        requires waits { held.entry.state ≡ Waiting }
+        ensures { PutNow (view H.meaning self.old) held.place held.entry result (view H.meaning self.new) }
     {
-        let answer = self.host.reverse(entry.issuer, entry.number);
-        let state = once_undone(answer);
-        self.books.forward(place, entry, state);
-        Told {
-            number: entry.number,
-            state,
-        }
+        let answer = self
+            .host
+            .post(held.entry.key(), held.entry.terms.details(), true);
+        self.settle(held, once_put(answer))
+    }
+
+    // Takes an owed entry back.
+    fn undo(&mut self, held: Held) -> Told
+        requires next { Next (view H.meaning self.old).books.places (view H.meaning self.old).books.mark held.place held.entry }
+        requires owes { held.entry.state ≡ Owed }
+        ensures { UndoneNow (view H.meaning self.old) held.place held.entry result (view H.meaning self.new) }
+    {
+        let answer = self.host.reverse(held.entry.key());
+        self.settle(held, once_undone(answer))
     }
 
     // Gives the host a turn, then asks it once for the next entry that waits or is owed, and tells what came of it.
@@ -75,11 +81,10 @@ impl<H: Host> Switch<H> {
         ensures { Forwarded (view H.meaning self.old) result (view H.meaning self.new) }
     {
         self.host.turn();
-        let (place, entry) = self.books.next_unsettled()?;
-        let told = match entry.state {
-            State::Owed => self.undo(place, &entry),
-            _ => self.put(place, &entry),
-        };
-        Some(told)
+        let held = self.books.next_unsettled()?;
+        Some(match held.entry.state {
+            State::Owed => self.undo(held),
+            _ => self.put(held),
+        })
     }
 }

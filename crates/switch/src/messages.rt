@@ -2,23 +2,23 @@
 ghost use Rattle.std.specs.Prelude.{◌≡◌, ◌*◌, ◌^◌, ◌<◌, ◌≤◌, true, Some, None};
 ghost use Rattle.intake.specs.Sizes.{Sized, SizedPresentment, SizedReversal};
 ghost use Rattle.books.specs.Sizes.{small};
-ghost use Rattle.journal.specs.Entries.{entered, repeated, same_terms, effect, reversal_of};
+ghost use Rattle.journal.specs.Entries.{repeated, same_terms, effect, reversal_of};
 ghost use Rattle.journal.specs.Places.{seek, Found, lowest_free};
-ghost use Rattle.journal.specs.declared.entry.State.TheVariants.{Waiting};
 ghost use Rattle.switch.specs.Handled.{Handles};
-ghost use Rattle.switch.specs.Orders.{Coded, Fits, RequestedSo, PresentedSo, TakenBackSo, EnteredSo, Obeyed};
+ghost use Rattle.switch.specs.Orders.{Coded, Fits, PresentedSo, TakenBackSo, EnteredSo, Obeyed};
 ghost use Rattle.switch.specs.Requests.{terms_of, state_by, code_by};
 ghost use Rattle.switch.specs.Reversals.{proper, presents, ByEffect, ByEntry};
-ghost use Rattle.switch.specs.States.{view, entering};
+ghost use Rattle.switch.specs.States.{view};
 
 use crate::switch::Switch;
 use elements::fault::SwitchFault;
 use elements::moment::Moment;
-use host::Host;
 use host::ask::PostAnswer;
-use intake::order::{Order, Presentment, Reversal};
+use host::line::Key;
+use host::{Host, code};
+use intake::order::{Order, Presentment, Reversal, Service};
 use intake::take::take;
-use journal::entry::{Effect, Entry, Kind, State, Terms};
+use journal::entry::{Effect, Entry, Held, Kind, State, Terms};
 use journal::number;
 use replies::reply::reply;
 
@@ -50,9 +50,9 @@ fn code_by(answer: PostAnswer) -> u8
     ensures { result ≡ code_by answer }
 {
     match answer {
-        PostAnswer::Posted => 0,
+        PostAnswer::Posted => code::APPROVED,
         PostAnswer::Declined(code) => code,
-        PostAnswer::Silence | PostAnswer::Clash => 91,
+        PostAnswer::Silence | PostAnswer::Clash => code::ISSUER_INOPERATIVE,
     }
 }
 
@@ -79,48 +79,30 @@ fn proper(v: &Reversal) -> bool
 fn presents(mti: u16) -> bool
     ensures { result ≡ presents mti }
 {
-    mti == 200 || mti == 201 || mti == 220 || mti == 221
+    matches!(Service::of(mti), Some(Service::Present(_)))
 }
 
 impl<H: Host> Switch<H> {
-    // Enters a request: its host is asked once, and need not let it stand.
-    fn request(&mut self, number: u64, issuer: u8, place: usize, terms: Terms) -> u8
+    // Enters what is new. The host of a request is asked once, and need not let it stand; that of an advice is not asked yet.
+    fn enter(&mut self, key: Key, place: usize, terms: Terms) -> u8
         requires room { lowest_free (view H.meaning self.old).books.places ≡ Some place }
-        requires new { seek (view H.meaning self.old).books.places number ≡ None }
-        requires size { Fits number issuer terms }
-        ensures { RequestedSo (view H.meaning self.old) number issuer place terms result (view H.meaning self.new) }
-    {
-        let answer = self.host.post(issuer, number, terms.details(), false);
-        let code = code_by(answer);
-        let entry = Entry::new(number, issuer, terms, state_by(answer), code);
-        self.books.take(place, entry);
-        code
-    }
-
-    // Enters an advice, its host unasked.
-    fn advise(&mut self, number: u64, issuer: u8, place: usize, terms: Terms) -> u8
-        requires room { lowest_free (view H.meaning self.old).books.places ≡ Some place }
-        requires new { seek (view H.meaning self.old).books.places number ≡ None }
-        requires size { Fits number issuer terms }
-        ensures { (result ≡ 0) × (view H.meaning self.new ≡ entering (view H.meaning self.old) place (entered number issuer terms Waiting 0) (view H.meaning self.old).host) }
-    {
-        let entry = Entry::new(number, issuer, terms, State::Waiting, 0);
-        self.books.take(place, entry);
-        0
-    }
-}
-
-impl<H: Host> Switch<H> {
-    // Enters what is new: a request or an advice.
-    fn enter(&mut self, number: u64, issuer: u8, place: usize, terms: Terms) -> u8
-        requires room { lowest_free (view H.meaning self.old).books.places ≡ Some place }
-        requires new { seek (view H.meaning self.old).books.places number ≡ None }
-        requires size { Fits number issuer terms }
-        ensures { EnteredSo (view H.meaning self.old) number issuer place terms result (view H.meaning self.new) }
+        requires new { seek (view H.meaning self.old).books.places key.number ≡ None }
+        requires size { Fits key.number key.issuer terms }
+        ensures { EnteredSo (view H.meaning self.old) key.number key.issuer place terms result (view H.meaning self.new) }
     {
         match terms.kind {
-            Kind::Request => self.request(number, issuer, place, terms),
-            Kind::Advice => self.advise(number, issuer, place, terms),
+            Kind::Request => {
+                let answer = self.host.post(key, terms.details(), false);
+                let code = code_by(answer);
+                let entry = Entry::new(key, terms, state_by(answer), code);
+                self.books.take(place, entry);
+                code
+            }
+            Kind::Advice => {
+                let entry = Entry::new(key, terms, State::Waiting, code::APPROVED);
+                self.books.take(place, entry);
+                code::APPROVED
+            }
         }
     }
 
@@ -131,33 +113,32 @@ impl<H: Host> Switch<H> {
         ensures { PresentedSo (view H.meaning self.old) acquirer p.now result (view H.meaning self.new) }
     {
         let Some(moment) = p.particulars.moment else {
-            return 30;
+            return code::FORMAT_ERROR;
         };
         if p.processing / 10_000 >= 30 {
-            return 12;
+            return code::INVALID_TRANSACTION;
         }
         if p.particulars.amount == 0 {
-            return 13;
+            return code::INVALID_AMOUNT;
         }
+        let moment = moment.number();
         let number = number::join(acquirer, moment, p.particulars.trace);
         let terms = terms(p);
-        if let Some((_, entry)) = self.books.find(number) {
-            return repeat(&entry, &terms);
+        if let Some(held) = self.books.find(number) {
+            return repeat(&held.entry, &terms);
         }
         if moment <= self.books.horizon() {
-            return 90;
+            return code::CUTOFF_PASSED;
         }
         let Some(issuer) = self.routes.issuer(&p.card) else {
-            return 15;
+            return code::NO_SUCH_ISSUER;
         };
         let Some(place) = self.books.free() else {
-            return 96;
+            return code::NO_ROOM;
         };
-        self.enter(number, issuer, place, terms)
+        self.enter(Key { issuer, number }, place, terms)
     }
-}
 
-impl<H: Host> Switch<H> {
     // A reversal of a number that the journal does not have: unless it is too late, the number is barred, so that a request that
     // comes after its reversal is not booked.
     fn bar(&mut self, number: u64) -> u8
@@ -166,25 +147,25 @@ impl<H: Host> Switch<H> {
         ensures { Coded (λ said. ByEntry None (view H.meaning self.old) number 0 said (view H.meaning self.new)) result }
     {
         if number::moment(number) <= self.books.horizon() {
-            return 25;
+            return code::NO_SUCH_RECORD;
         }
         let Some(place) = self.books.free() else {
-            return 96;
+            return code::NO_ROOM;
         };
         self.books.take(place, Entry::barred(number));
-        25
+        code::NO_SUCH_RECORD
     }
 
     // A reversal of an entry: state and reversal together decide.
-    fn reverse(&mut self, place: usize, entry: &Entry, amount: u64) -> u8
-        requires { Found (view H.meaning self.old).books.places entry.now.number place entry.now }
-        ensures { Coded (λ said. ByEffect (effect entry.now.state (reversal_of entry.now amount)) (view H.meaning self.old) entry.now said (view H.meaning self.new)) result }
+    fn reverse(&mut self, held: Held, amount: u64) -> u8
+        requires { Found (view H.meaning self.old).books.places held.entry.number held.place held.entry }
+        ensures { Coded (λ said. ByEffect (effect held.entry.state (reversal_of held.entry amount)) (view H.meaning self.old) held.entry said (view H.meaning self.new)) result }
     {
-        match entry.reversed(entry.reversal(amount)) {
+        match held.entry.reversed(held.entry.reversal(amount)) {
             Effect::Answers(code) => code,
             Effect::Owes => {
-                self.books.owe(place, entry);
-                0
+                self.books.owe(held);
+                code::APPROVED
             }
         }
     }
@@ -196,17 +177,15 @@ impl<H: Host> Switch<H> {
         ensures { TakenBackSo (view H.meaning self.old) acquirer v.now result (view H.meaning self.new) }
     {
         if !proper(v) {
-            return 30;
+            return code::FORMAT_ERROR;
         }
         let number = number::join(acquirer, v.original.moment, v.original.trace);
         match self.books.find(number) {
-            Some((place, entry)) => self.reverse(place, &entry, v.particulars.amount),
+            Some(held) => self.reverse(held, v.particulars.amount),
             None => self.bar(number),
         }
     }
-}
 
-impl<H: Host> Switch<H> {
     // Carries an order out, and answers its response code.
     fn obey(&mut self, acquirer: u8, order: &Order) -> u8
         requires bank { acquirer < 16 }
@@ -224,12 +203,13 @@ impl<H: Host> Switch<H> {
     pub fn handle(&mut self, bytes: &[u8], out: &mut [u8]) -> Result<usize, SwitchFault>
         ensures { Handles (view H.meaning self.old) bytes.now out.old result (view H.meaning self.new) out.new }
     {
-        let (layout, order) = take(bytes, out.len())?;
+        let (message, order) = take(bytes, out.len())?;
         let told = order.particulars();
-        let Some(acquirer) = self.banks.place(told.acquirer) else {
-            return Err(SwitchFault::Acquirer { place: told.place });
-        };
+        let acquirer = self
+            .banks
+            .place(told.acquirer)
+            .ok_or(SwitchFault::Acquirer { place: told.place })?;
         let code = self.obey(acquirer, &order);
-        Ok(reply(out, &layout.over(bytes), code))
+        Ok(reply(out, &message, code))
     }
 }

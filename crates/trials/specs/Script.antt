@@ -1,22 +1,23 @@
 -- A trial host: what its script has it answer.
-use Rattle.std.specs.Prelude.{ℕ, min, max, Bool, false, cond, ◌&&◌, List, [], ◌∷◌, drop, Some, None, vec_items, Option, ◌==◌}
+use Rattle.std.specs.Prelude.{ℕ, min, max, Bool, false, cond, ◌&&◌, List, [], ◌∷◌, Some, None, Option, ◌==◌}
+use Rattle.std.specs.Vec.Iter.{into_iter_items}
 use Rattle.host.specs.declared.ask.PostAnswer.{PostAnswer}
 use Rattle.host.specs.declared.ask.PostAnswer.TheVariants as posting
 use Rattle.host.specs.declared.ask.ReverseAnswer.{ReverseAnswer}
 use Rattle.host.specs.declared.ask.ReverseAnswer.TheVariants as reversing
 use Rattle.host.specs.declared.line.Details.{Details}
+use Rattle.host.specs.declared.line.Key.{Key}
 use Rattle.host.specs.declared.line.Line.{Line}
 use Rattle.host.specs.declared.line.Line.TheVariants.{Absent, Posted, Adrift, Leaving, Closed}
-use Rattle.lines.specs.Answers.{same}
+use Rattle.lines.specs.Answers.{same, reverse_answer}
 use Rattle.trials.specs.declared.script.Cue.{Cue}
-use Rattle.trials.specs.declared.trial.Key.{Key}
 use Rattle.trials.specs.declared.script.Script.{Script}
 use Rattle.trials.specs.declared.script.Word.{Word}
 use Rattle.trials.specs.declared.script.Word.TheVariants as word
 
 -- what is left of the script
-unfoldable pub cues_left : Script → List Cue
-cues_left s = drop s.next (vec_items s.cues)
+abbrev pub cues_left : Script → List Cue
+cues_left s = into_iter_items s.cues
 
 -- the cue that an ask takes: posted, once they run out
 abbrev pub first_cue : List Cue → Cue
@@ -57,23 +58,15 @@ trial_answer w free (Adrift e) d = cond (same e d) (by_word w) posting.Clash
 trial_answer w free (Leaving e) d = posting.Silence
 trial_answer w free Closed d = on_closed w
 
--- a reverse is silent where a new closed line finds no place
-abbrev pub limit_reverse : ℕ → Line → ReverseAnswer
-limit_reverse free Absent = cond (free == 0) reversing.Silence reversing.Done
-limit_reverse free (Posted d) = reversing.Done
-limit_reverse free (Adrift d) = reversing.Done
-limit_reverse free (Leaving d) = reversing.Done
-limit_reverse free Closed = reversing.Done
-
 -- a reverse is silent by the word silence, and where it wants a place
 abbrev pub trial_reverse : Word → ℕ → Line → ReverseAnswer
-trial_reverse word.Posted free l = limit_reverse free l
+trial_reverse word.Posted free l = reverse_answer free l
 trial_reverse word.Silence free l = reversing.Silence
-trial_reverse (word.Decline c) free l = limit_reverse free l
+trial_reverse (word.Decline c) free l = reverse_answer free l
 
--- the pair that an ask makes held, in the place of any other
-abbrev pub holding : Cue → ℕ → ℕ → Option Key
-holding c issuer number = cond c.holds (Some (record { issuer = issuer; number = number })) None
+-- the key that an ask makes held, in the place of any other
+abbrev pub holding : Cue → Key → Option Key
+holding c key = cond c.holds (Some key) None
 
 abbrev pub is_held : Option Key → ℕ → ℕ → Bool
 is_held None issuer number = false

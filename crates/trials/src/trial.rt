@@ -1,30 +1,22 @@
 // A host for trials: what the meaning of a host leaves open is told by a script.
 ghost use Rattle.std.specs.Prelude.{◌≡◌, ℕ, drop, None};
+ghost use Rattle.host.specs.Logs.{unasked};
 ghost use Rattle.host.specs.Meaning.{Posts, Reverses, Forgets, Turns};
 ghost use Rattle.host.specs.declared.line.Line.TheVariants.{Absent};
 ghost use Rattle.trials.specs.Script.{cues_left, first_cue, trial_answer, trial_reverse, holding, is_held};
 ghost use Rattle.trials.specs.Views.{tried};
-ghost use Rattle.lines.specs.Answers.{places_left};
-ghost use Rattle.lines.specs.Logs.{unasked};
-ghost use Rattle.lines.specs.Rows.{free, shown};
+ghost use Rattle.lines.specs.Rows.{free, shown, PlacesKept};
 
-use crate::script::{Cue, Script, Word};
-use host::Host;
-use host::ask::{Ask, ForgetAnswer, PostAnswer, ReverseAnswer};
-use host::line::{Details, Line};
+use crate::script::{Script, Word};
+use host::ask::{ForgetAnswer, PostAnswer, ReverseAnswer};
+use host::line::{Details, Key, Line};
+use host::log::Log;
+use host::{Host, code};
 use lines::change::{after_post, after_reverse};
-use lines::log::Log;
 use lines::table::Lines;
 
 // How many lines it keeps.
 const LINES: usize = 1024;
-
-// An issuer and a number.
-#[derive(Clone, Copy)]
-pub struct Key {
-    issuer: u8,
-    number: u64,
-}
 
 // Each ask takes the next cue of the script, also where it cannot matter. Once they run out, it posts.
 #[derive(Drop)]
@@ -36,7 +28,7 @@ pub struct TrialHost {
 }
 
 impl TrialHost {
-    // A new host: no line, no ask, no pair held.
+    // A new host: no line, no ask, no key held.
     pub fn new(script: Script) -> TrialHost
         ensures lines { (issuer number : ℕ) → (tried result).lines issuer number ≡ Absent }
         ensures held { result.held ≡ None }
@@ -50,14 +42,11 @@ impl TrialHost {
         }
     }
 
-    // Whether a pair is held.
-    fn holds(&self, issuer: u8, number: u64) -> bool
-        ensures { result ≡ is_held self.now.held issuer number }
+    // Whether a key is held.
+    fn holds(&self, key: Key) -> bool
+        ensures { result ≡ is_held self.now.held key.issuer key.number }
     {
-        match self.held {
-            Some(key) => key.issuer == issuer && key.number == number,
-            None => false,
-        }
+        self.held == Some(key)
     }
 
     fn answer(&self, word: Word, found: Line, details: &Details) -> PostAnswer
@@ -65,7 +54,7 @@ impl TrialHost {
     {
         match (found, word) {
             (Line::Absent, Word::Posted | Word::Silence) if !self.lines.has_room() => {
-                PostAnswer::Declined(96)
+                PostAnswer::Declined(code::NO_ROOM)
             }
             (Line::Absent, word) => word.answer(),
             (Line::Posted(booked) | Line::Adrift(booked), _) if booked != *details => {
@@ -75,7 +64,7 @@ impl TrialHost {
             (Line::Posted(_), _) => PostAnswer::Posted,
             (Line::Adrift(_), word) => word.answer(),
             (Line::Leaving(_), _) => PostAnswer::Silence,
-            (Line::Closed, Word::Posted) => PostAnswer::Declined(21),
+            (Line::Closed, Word::Posted) => PostAnswer::Declined(code::NO_ACTION_TAKEN),
             (Line::Closed, word) => word.answer(),
         }
     }
@@ -84,82 +73,61 @@ impl TrialHost {
     fn reverse_answer(&self, word: Word, found: Line) -> ReverseAnswer
         ensures { result ≡ trial_reverse word (free self.now.lines.rows) found }
     {
-        match (word, found) {
-            (Word::Silence, _) => ReverseAnswer::Silence,
-            (_, Line::Absent) if !self.lines.has_room() => ReverseAnswer::Silence,
-            _ => ReverseAnswer::Done,
+        match word {
+            Word::Silence => ReverseAnswer::Silence,
+            _ => self.lines.reverse_outcome(found),
         }
     }
 }
 
-// The pair that an ask makes held.
-fn held_by(cue: Cue, issuer: u8, number: u64) -> Option<Key>
-    ensures { result ≡ holding cue issuer number }
-{
-    if cue.holds {
-        Some(Key { issuer, number })
-    } else {
-        None
-    }
-}
-
+// The steps are those of the limit host, and the script and the key held change between them: no function takes them together,
+// since it would have to ask of a host's rule what each host shows here by itself.
 impl Host for TrialHost {
     ghost meaning = { tried };
 
-    fn post(&mut self, issuer: u8, number: u64, details: Details, must_stand: bool) -> PostAnswer
-        ensures kept { Posts (tried self.old) issuer number details must_stand result (tried self.new) }
-        ensures answer { result ≡ trial_answer (first_cue (cues_left self.old.script)).word (free self.old.lines.rows) (shown self.old.lines.rows issuer number) details }
-        ensures places { free self.new.lines.rows ≡ places_left (shown self.old.lines.rows issuer number) (shown self.new.lines.rows issuer number) (free self.old.lines.rows) }
+    fn post(&mut self, key: Key, details: Details, must_stand: bool) -> PostAnswer
+        ensures kept { Posts (tried self.old) key details must_stand result (tried self.new) }
+        ensures answer { result ≡ trial_answer (first_cue (cues_left self.old.script)).word (free self.old.lines.rows) (shown self.old.lines.rows key.issuer key.number) details }
+        ensures places { PlacesKept self.old.lines.rows key self.new.lines.rows }
         ensures script { cues_left self.new.script ≡ drop 1 (cues_left self.old.script) }
-        ensures held { self.new.held ≡ holding (first_cue (cues_left self.old.script)) issuer number }
+        ensures held { self.new.held ≡ holding (first_cue (cues_left self.old.script)) key }
     {
         let cue = self.script.take();
-        let found = self.lines.get(issuer, number);
+        let found = self.lines.get(key);
         let answer = self.answer(cue.word, found, &details);
-        self.lines
-            .put(issuer, number, after_post(found, details, answer));
-        self.held = held_by(cue, issuer, number);
-        self.log.ask(Ask::Post {
-            issuer,
-            number,
-            details,
-            must_stand,
-            answer,
-        });
+        self.lines.put(key, after_post(found, details, answer));
+        self.held = cue.holds.then_some(key);
+        self.log.posted(key, details, must_stand, answer);
         answer
     }
 
-    fn reverse(&mut self, issuer: u8, number: u64) -> ReverseAnswer
-        ensures kept { Reverses (tried self.old) issuer number result (tried self.new) }
-        ensures answer { result ≡ trial_reverse (first_cue (cues_left self.old.script)).word (free self.old.lines.rows) (shown self.old.lines.rows issuer number) }
-        ensures places { free self.new.lines.rows ≡ places_left (shown self.old.lines.rows issuer number) (shown self.new.lines.rows issuer number) (free self.old.lines.rows) }
+    fn reverse(&mut self, key: Key) -> ReverseAnswer
+        ensures kept { Reverses (tried self.old) key result (tried self.new) }
+        ensures answer { result ≡ trial_reverse (first_cue (cues_left self.old.script)).word (free self.old.lines.rows) (shown self.old.lines.rows key.issuer key.number) }
+        ensures places { PlacesKept self.old.lines.rows key self.new.lines.rows }
         ensures script { cues_left self.new.script ≡ drop 1 (cues_left self.old.script) }
-        ensures held { self.new.held ≡ holding (first_cue (cues_left self.old.script)) issuer number }
+        ensures held { self.new.held ≡ holding (first_cue (cues_left self.old.script)) key }
     {
         let cue = self.script.take();
-        let found = self.lines.get(issuer, number);
+        let found = self.lines.get(key);
         let answer = self.reverse_answer(cue.word, found);
-        self.lines.put(issuer, number, after_reverse(found, answer));
-        self.held = held_by(cue, issuer, number);
-        self.log.ask(Ask::Reverse {
-            issuer,
-            number,
-            answer,
-        });
+        self.lines.put(key, after_reverse(found, answer));
+        self.held = cue.holds.then_some(key);
+        self.log.reversed(key, answer);
         answer
     }
 
-    fn forget(&mut self, issuer: u8, number: u64) -> ForgetAnswer
-        ensures kept { Forgets (tried self.old) issuer number result (tried self.new) }
-        ensures places { free self.new.lines.rows ≡ places_left (shown self.old.lines.rows issuer number) (shown self.new.lines.rows issuer number) (free self.old.lines.rows) }
+    fn forget(&mut self, key: Key) -> ForgetAnswer
+        ensures kept { Forgets (tried self.old) key result (tried self.new) }
+        ensures places { PlacesKept self.old.lines.rows key self.new.lines.rows }
         ensures script { self.new.script ≡ self.old.script }
     {
-        let held = self.holds(issuer, number);
-        self.lines.forget(issuer, number, held)
+        let held = self.holds(key);
+        self.lines.forget(key, held)
     }
 
-    fn line(&self, issuer: u8, number: u64) -> Line {
-        self.lines.get(issuer, number)
+    fn line(&self, key: Key) -> Line {
+        self.lines.get(key)
     }
 
     // What was held is held no more.

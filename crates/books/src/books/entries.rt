@@ -1,17 +1,35 @@
 // Entries that come into the books, and what becomes of them.
 ghost use Rattle.std.specs.Prelude.{◌≡◌, ℕ, true, false, IfSome, Some, None, MatchOption, slice_index_or};
-ghost use Rattle.books.specs.Ledgers.{ledger, fresh, counted, reversed, taken_in, taken_back, forwarded};
+ghost use Rattle.books.specs.Ledgers.{ledger, fresh, counted, taken_in, taken_back, forwarded};
 ghost use Rattle.books.specs.Sizes.{small};
-ghost use Rattle.journal.specs.Entries.{undone, in_state};
+ghost use Rattle.journal.specs.Entries.{side_of, undone, in_state};
+ghost use Rattle.journal.specs.Numbers.{acquirer};
 ghost use Rattle.journal.specs.Places.{seek, Found, lowest_free, Unsettled, Next};
 ghost use Rattle.sums.specs.Days.{sums_of};
-ghost use Rattle.sums.specs.Sums.{ApprovedWithin, ReversedWithin};
+ghost use Rattle.sums.specs.Sums.{ApprovedWithin};
 
 use crate::books::Books;
-use journal::entry::{Entry, State};
-use journal::journal::Journal;
-use journal::{changes, number};
+use journal::entry::{Entry, Held, State};
+use journal::journal::{Journal, PLACES};
+use journal::number;
 use sums::day::Day;
+use sums::figures::Kind;
+use sums::payment::Payment;
+
+// What an entry comes to in the sums.
+fn payment(entry: &Entry) -> Payment
+    requires { small entry.now ≡ true }
+    ensures banks { (result.acquirer ≡ acquirer entry.now.number) × (result.issuer ≡ entry.now.issuer) }
+    ensures side { result.side ≡ side_of entry.now.terms.processing }
+    ensures amount { result.amount ≡ entry.now.terms.amount }
+{
+    Payment {
+        acquirer: number::parts(entry.number).0,
+        issuer: entry.issuer,
+        side: entry.terms.side(),
+        amount: entry.terms.amount,
+    }
+}
 
 // Counts an entry that a message makes.
 fn count(day: &mut Day, entry: &Entry)
@@ -19,33 +37,10 @@ fn count(day: &mut Day, entry: &Entry)
     requires room { ApprovedWithin 511 (sums_of day.old) }
     ensures { sums_of day.new ≡ counted entry.now.state (sums_of day.old) entry.now }
 {
-    let (acquirer, _, _) = number::parts(entry.number);
     match entry.state {
-        State::Waiting | State::Completed => {
-            day.approve(
-                acquirer,
-                entry.issuer,
-                changes::side(entry.processing),
-                entry.amount,
-            );
-        }
+        State::Waiting | State::Completed => day.count(Kind::Approval, payment(entry)),
         State::Declined | State::Owed | State::Reversed | State::Barred => {}
     }
-}
-
-// Counts the reversal of an entry.
-fn count_reversal(day: &mut Day, entry: &Entry)
-    requires size { small entry.now ≡ true }
-    requires room { ReversedWithin 511 (sums_of day.old) }
-    ensures { sums_of day.new ≡ reversed (sums_of day.old) entry.now }
-{
-    let (acquirer, _, _) = number::parts(entry.number);
-    day.reverse(
-        acquirer,
-        entry.issuer,
-        changes::side(entry.processing),
-        entry.amount,
-    );
 }
 
 impl Books {
@@ -63,9 +58,9 @@ impl Books {
     }
 
     // The place and the entry of a number.
-    pub fn find(&self, number: u64) -> Option<(usize, Entry)>
-        ensures found { MatchOption result (seek (ledger self.now).places number ≡ None) (λ p. Found (ledger self.now).places number p.0 p.1) }
-        ensures size { IfSome result (λ p. small p.1 ≡ true) }
+    pub fn find(&self, number: u64) -> Option<Held>
+        ensures found { MatchOption result (seek (ledger self.now).places number ≡ None) (λ held. Found (ledger self.now).places number held.place held.entry) }
+        ensures size { IfSome result (λ held. small held.entry ≡ true) }
     {
         self.journal.find(number)
     }
@@ -84,8 +79,8 @@ impl Books {
     }
 
     // The first waiting or owed entry from the mark on and round, with its place.
-    pub fn next_unsettled(&self) -> Option<(usize, Entry)>
-        ensures { MatchOption result ((i : ℕ) → Unsettled (slice_index_or (ledger self.now).places i None) → ⊥) (λ p. Next (ledger self.now).places (ledger self.now).mark p.0 p.1) }
+    pub fn next_unsettled(&self) -> Option<Held>
+        ensures { MatchOption result ((i : ℕ) → Unsettled (slice_index_or (ledger self.now).places i None) → ⊥) (λ held. Next (ledger self.now).places (ledger self.now).mark held.place held.entry) }
     {
         self.journal.next_unsettled(self.mark)
     }
@@ -102,22 +97,22 @@ impl Books {
     }
 
     // A completed or waiting entry becomes owed, and its reversal counts.
-    pub fn owe(&mut self, place: usize, entry: &Entry)
-        requires here { Found (ledger self.old).places entry.now.number place entry.now }
-        requires settled { undone entry.now.state ≡ false }
-        ensures { ledger self.new ≡ taken_back (ledger self.old) place entry.now }
+    pub fn owe(&mut self, held: Held)
+        requires here { Found (ledger self.old).places held.entry.number held.place held.entry }
+        requires settled { undone held.entry.state ≡ false }
+        ensures { ledger self.new ≡ taken_back (ledger self.old) held.place held.entry }
     {
-        self.journal.put(place, entry.owing());
-        count_reversal(&mut self.today, entry);
+        self.journal.put(held.place, held.entry.owing());
+        self.today.count(Kind::Reversal, payment(&held.entry));
     }
 
     // An entry is in another state once its host was asked, and the mark moves on.
-    pub fn forward(&mut self, place: usize, entry: &Entry, state: State)
-        requires next { Next (ledger self.old).places (ledger self.old).mark place entry.now }
-        requires kept { undone state ≡ undone entry.now.state }
-        ensures { ledger self.new ≡ forwarded (ledger self.old) place (in_state state entry.now) }
+    pub fn forward(&mut self, held: Held, state: State)
+        requires next { Next (ledger self.old).places (ledger self.old).mark held.place held.entry }
+        requires kept { undone state ≡ undone held.entry.state }
+        ensures { ledger self.new ≡ forwarded (ledger self.old) held.place (in_state state held.entry) }
     {
-        self.journal.put(place, entry.becomes(state));
-        self.mark = (place + 1) % 512;
+        self.journal.put(held.place, held.entry.becomes(state));
+        self.mark = (held.place + 1) % PLACES;
     }
 }

@@ -1,10 +1,11 @@
 // What is read from the places of the journal, and written to them.
-ghost use Rattle.std.specs.Prelude.{◌≡◌, ℕ, ◌<◌, replicate, IfSome, Some, None, MatchOption, slice_index_or, slice_set};
-ghost use Rattle.journal.specs.Passes.{FirstNumbered, Free, FirstFree, FirstFrom};
-ghost use Rattle.journal.specs.Places.{seek, Apart, Found, lowest_free, Numbered, Unsettled, Next, MayHold, is_open, lesser, open_moment, least_unsettled, unsettled_count};
+ghost use Rattle.std.specs.Prelude.{◌≡◌, ℕ, ◌<◌, ◌≤◌, replicate, IfSome, Some, None, MatchOption, slice_index_or, slice_set};
+ghost use Rattle.std.specs.Fn.{FnReturnsAt};
+ghost use Rattle.journal.specs.Passes.{Finds};
+ghost use Rattle.journal.specs.Places.{seek, Apart, Found, lowest_free, Unsettled, Next, MayHold, is_open, open_moment, least_unsettled, unsettled_count};
 
-use crate::entry::Entry;
-use crate::journal::Journal;
+use crate::entry::{Entry, Held};
+use crate::journal::{Journal, PLACES};
 use crate::number;
 
 impl Journal {
@@ -13,7 +14,7 @@ impl Journal {
         ensures { result.places ≡ replicate 512 None }
     {
         Journal {
-            places: [None; 512],
+            places: [None; PLACES],
         }
     }
 
@@ -21,28 +22,27 @@ impl Journal {
     pub fn at(&self, place: usize) -> Option<Entry>
         ensures { result ≡ slice_index_or self.now.places place None }
     {
-        match self.places.get(place) {
-            Some(p) => *p,
-            None => None,
-        }
+        self.places.get(place).copied().flatten()
     }
 
     // The place and the entry of a number.
-    pub fn find(&self, number: u64) -> Option<(usize, Entry)>
-        ensures { MatchOption result (seek self.now.places number ≡ None) (λ p. Found self.now.places number p.0 p.1) }
+    pub fn find(&self, number: u64) -> Option<Held>
+        ensures { MatchOption result (seek self.now.places number ≡ None) (λ held. Found self.now.places number held.place held.entry) }
     {
-        self.first_numbered(number)
+        self.first(0, PLACES, |entry| entry.number == number)
     }
 
-    // The first place that has the number.
-    fn first_numbered(&self, number: u64) -> Option<(usize, Entry)>
-        ensures { MatchOption result ((k : ℕ) → k < 512 → Numbered (slice_index_or self.now.places k None) number → ⊥) (λ p. FirstNumbered self.now.places number p.0 p.1) }
+    // The first entry that passes a test, from one place on and before another.
+    fn first<P: Fn(&Entry) -> bool>(&self, from: usize, to: usize, test: P) -> Option<Held>
+        requires bound { to ≤ 512 }
+        requires callable { P.IsAlwaysCallable test }
+        ensures { Finds (FnReturnsAt P.Fn test) self.now.places from to result }
     {
-        for (i, p) in self.places.iter().enumerate() {
-            if let Some(e) = p
-                && e.number == number
+        for place in from..to {
+            if let Some(entry) = self.places[place]
+                && test(&entry)
             {
-                return Some((i, *e));
+                return Some(Held { place, entry });
             }
         }
         None
@@ -52,19 +52,7 @@ impl Journal {
     pub fn free(&self) -> Option<usize>
         ensures { (result ≡ lowest_free self.now.places) × IfSome result (λ i. i < 512) }
     {
-        self.first_free()
-    }
-
-    // The first place that holds nothing.
-    fn first_free(&self) -> Option<usize>
-        ensures { MatchOption result ((k : ℕ) → k < 512 → Free (slice_index_or self.now.places k None) → ⊥) (λ i. FirstFree self.now.places i) }
-    {
-        for (i, p) in self.places.iter().enumerate() {
-            if p.is_none() {
-                return Some(i);
-            }
-        }
-        None
+        self.places.iter().position(|place| place.is_none())
     }
 
     // Writes an entry at a place, free or not. No other place has its number.
@@ -92,55 +80,29 @@ impl Journal {
     }
 
     // The first waiting or owed entry from the mark on and round, with its place.
-    pub fn next_unsettled(&self, mark: usize) -> Option<(usize, Entry)>
+    pub fn next_unsettled(&self, mark: usize) -> Option<Held>
         requires { mark < 512 }
-        ensures { MatchOption result ((i : ℕ) → Unsettled (slice_index_or self.now.places i None) → ⊥) (λ p. Next self.now.places mark p.0 p.1) }
+        ensures { MatchOption result ((i : ℕ) → Unsettled (slice_index_or self.now.places i None) → ⊥) (λ held. Next self.now.places mark held.place held.entry) }
     {
-        self.first_from(mark)
-    }
-
-    // One pass over the places in their order, which keeps the first one before the mark in mind.
-    fn first_from(&self, mark: usize) -> Option<(usize, Entry)>
-        ensures { MatchOption result ((k : ℕ) → k < 512 → Unsettled (slice_index_or self.now.places k None) → ⊥) (λ p. FirstFrom self.now.places mark p.0 p.1) }
-    {
-        let mut before = None;
-        for (i, p) in self.places.iter().enumerate() {
-            if let Some(e) = *p
-                && e.unsettled()
-            {
-                if i >= mark {
-                    return Some((i, e));
-                }
-                if before.is_none() {
-                    before = Some((i, e));
-                }
-            }
+        // A `match`, since no proof can cite what a closure that is given to `or_else` answers.
+        match self.first(mark, PLACES, Entry::unsettled) {
+            Some(held) => Some(held),
+            None => self.first(0, mark, Entry::unsettled),
         }
-        before
     }
 
     // The least moment of what is waiting or owed.
     pub fn least_unsettled(&self) -> Option<u64>
         ensures { result ≡ least_unsettled self.now.places }
     {
-        let mut least = None;
-        for p in self.places.iter() {
-            least = lesser(least, open_moment(p));
-        }
-        least
+        self.places.iter().filter_map(open_moment).min()
     }
 
     // How many entries are waiting or owed.
     pub fn unsettled(&self) -> usize
         ensures { result ≡ unsettled_count self.now.places }
     {
-        let mut count = 0;
-        for p in self.places.iter() {
-            if is_open(p) {
-                count += 1;
-            }
-        }
-        count
+        self.places.iter().filter(|place| is_open(place)).count()
     }
 }
 
@@ -148,29 +110,14 @@ impl Journal {
 fn is_open(place: &Option<Entry>) -> bool
     ensures { result ≡ is_open place.now }
 {
-    match place {
-        Some(e) => e.unsettled(),
-        None => false,
-    }
-}
-
-// The lesser of two moments that may be missing.
-fn lesser(a: Option<u64>, b: Option<u64>) -> Option<u64>
-    ensures { result ≡ lesser a b }
-{
-    match (a, b) {
-        (Some(m), Some(n)) => Some(m.min(n)),
-        (Some(m), None) => Some(m),
-        (None, _) => b,
-    }
+    place.is_some_and(|entry| entry.unsettled())
 }
 
 // The moment of an entry that is waiting or owed.
 fn open_moment(place: &Option<Entry>) -> Option<u64>
     ensures { result ≡ open_moment place.now }
 {
-    match place {
-        Some(e) if e.unsettled() => Some(number::moment(e.number)),
-        _ => None,
-    }
+    place
+        .filter(Entry::unsettled)
+        .map(|entry| number::moment(entry.number))
 }

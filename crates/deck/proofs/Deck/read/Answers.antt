@@ -1,30 +1,32 @@
-use Rattle.std.proofs.Common.{◌<◌, map, length, ap, arith, true-eqb, false-eqb}
+use Rattle.std.proofs.Common.{rules, ℕ, List, map, ap, ◌==◌, length-append, tests}
+use Rattle.std.specs.List.{enumerate_from}
+use Rattle.std.proofs.lemmas.Iterator.{YieldsList}
+use Rattle.std.proofs.lemmas.Iterator.Consumers.{YieldsList-at, YieldsList-from_enumerate}
+use Rattle.std.proofs.lemmas.Iterator.Splits.{YieldsList-from_slice_split}
 use Rattle.deck.specs.Deck.{meant}
-use Rattle.deck.proofs.Lines.{start, shorter, next, wrong, done_all, blames_too}
+use Rattle.deck.proofs.Lines.{parts, turn, end, start, next, wrong, done_all, blames_too}
+use Rattle.deck.proofs.Deck.read.Given as given
 use Rattle.deck.proofs.Deck.read.Goals as goal
+use Rattle.deck.proofs.Deck.read.Goals.{After-next}
 
-pub loop-rest-init : goal.loop-rest-init
-loop-rest-init c = start c.args.text.now _ (ap (map meant) c.new-commands.ensures.items)
+-- the loop takes the parts of the text, each with its number
+road : (c : After-next) → YieldsList {B = ℕ × List ℕ} (given.iterator-loop-i).next_gives (λ p. (p.0, p.1.now)) c.into_iter-i-iterator.result (enumerate_from 0 (parts c.args.text.now))
+road c =
+    YieldsList-at c.into_iter-i-iterator.ensures.into_iter_gives (YieldsList-from_enumerate (YieldsList-at c.enumerate-i-items.ensures.source (YieldsList-from_slice_split _ (λ b. b == 10) c.args.text.now c.split.ensures.rest c.split.ensures.done c.split.ensures.closure (λ x b q k. search (rules, tests)))) c.enumerate-i-items.ensures.count)
 
-pub returns-in-Err : goal.returns-in-Err
-returns-in-Err c =
-    let some : 0 < length c.loop-rest.rest.now = omega (arith, false-eqb _ 0 c.loop-rest-test.ensures) in
-    blames_too c.in-Err.fault (wrong c.loop-rest.invariant _ some c.cut.ensures.front) c.in-Err.ensures
+pub loop-i-init : goal.loop-i-init
+loop-i-init c = start c.args.text.now _ (ap (map meant) c.new-commands.ensures.items)
 
-pub overflow_add-line : goal.overflow_add-line
-overflow_add-line c =
-    let some : 0 < length c.loop-rest.rest.now = omega (arith, false-eqb _ 0 c.loop-rest-test.ensures) in
-    omega (arith, c.loop-rest.invariant.few)
+pub loop-i-preserved : goal.loop-i-preserved
+loop-i-preserved c =
+    let at = turn c.args.text.now (road (goal.at.loop-i-preserved c).After-next) c.loop-i.yielded c.loop-i.yielded_by c.next.ensures.steps c.in-Some.i c.in-Some.line c.in-Some.is in
+    rw length-append (next c.loop-i.invariant c.in-Some.line.now _ at.0 at.2 (search rules))
 
-pub loop-rest-smaller : goal.loop-rest-smaller
-loop-rest-smaller c =
-    let some : 0 < length c.loop-rest.rest.now = omega (arith, false-eqb _ 0 c.loop-rest-test.ensures) in
-    omega (arith, shorter c.loop-rest.rest.now some, ap length c.cut.ensures.back)
-
-pub loop-rest-preserved : goal.loop-rest-preserved
-loop-rest-preserved c =
-    let some : 0 < length c.loop-rest.rest.now = omega (arith, false-eqb _ 0 c.loop-rest-test.ensures) in
-    next c.loop-rest.invariant _ _ _ some c.cut.ensures.front c.cut.ensures.back c.in_default.ensures
+pub returns-in_err-map_err : goal.returns-in_err-map_err
+returns-in_err-map_err c =
+    let at = turn c.args.text.now (road (goal.at.returns-in_err-map_err c).After-next) c.loop-i.yielded c.loop-i.yielded_by c.next.ensures.steps c.in-Some.i c.in-Some.line c.in-Some.is in
+    search (rules, blames_too, wrong c.loop-i.invariant c.in-Some.line.now at.0 at.2)
 
 pub returns : goal.returns
-returns c = done_all c.loop-rest.invariant (true-eqb _ 0 c.loop-rest-test.ensures)
+returns c =
+    done_all c.loop-i.invariant (end c.args.text.now (road (goal.at.returns c).After-next) c.loop-i.yielded c.loop-i.yielded_by c.next.ensures.steps c.in-None.is)

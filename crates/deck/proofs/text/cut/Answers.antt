@@ -1,23 +1,18 @@
-use Rattle.std.proofs.Common.{◌+◌, ◌≤◌, length, take, drop, sym, ap, ◌∙◌, arith, true-eqb}
-use Rattle.std.proofs.lemmas.List.{drop_all, drop-drop, take_rest, nil_from_length}
+use Rattle.std.proofs.Common.{◌≡◌, ◌+◌, ◌≤◌, length, arith, rules, ◌==◌}
+use Rattle.std.specs.List.{position_or_len}
+use Rattle.std.proofs.lemmas.List.{take_all, drop_all, take_rest}
+use Rattle.std.proofs.lemmas.List.Sums.{position_or_len_is}
 use Rattle.deck.proofs.text.cut.Goals as goal
 
-pub returns-then-is_empty : goal.returns-then-is_empty
-returns-then-is_empty c =
-    let parts = c.split_at.ensures in
-    let none = true-eqb _ 0 c.if-is_empty.ensures in
-    let past : length c.args.text.now ≤ c.length.result + 1 = omega (arith, parts.back_len) in
-    record {
-      front = parts.front ∙ ap (λ n. take n c.args.text.now) c.length.ensures.value;
-      back =
-          nil_from_length _ none ∙ sym (drop_all _ c.args.text.now past) ∙ ap (λ n. drop (n + 1) c.args.text.now) c.length.ensures.value;
-    }
+pub returns-in-Some : goal.returns-in-Some
+returns-in-Some c =
+    let text = c.args.text.now in
+    let at : position_or_len (λ b. b == c.args.stop) text ≡ c.in-Some.i = position_or_len_is _ text c.in-Some.i 0 (search rules) (λ k before. search rules) (λ inside. search rules) in
+    record { front = rw at; back = rw (at, take_rest) }
 
-pub returns-else-is_empty : goal.returns-else-is_empty
-returns-else-is_empty c =
-    let parts = c.split_at.ensures in
-    record {
-      front = parts.front ∙ ap (λ n. take n c.args.text.now) c.length.ensures.value;
-      back =
-          take_rest c.split_at.result.1.now 1 ∙ ap (drop 1) parts.back ∙ drop-drop 1 _ c.args.text.now ∙ ap (λ n. drop (n + 1) c.args.text.now) c.length.ensures.value;
-    }
+pub returns-in-None : goal.returns-in-None
+returns-in-None c =
+    let text = c.args.text.now in
+    let at : position_or_len (λ b. b == c.args.stop) text ≡ length text = position_or_len_is _ text (length text) 0 (omega arith) (λ k before. search rules) (λ inside. absurd (omega arith)) in
+    let past : length text ≤ length text + 1 = omega arith in
+    record { front = rw (at, take_all (length text) text (omega arith)); back = rw (at, drop_all (length text + 1) text past) }

@@ -5,13 +5,11 @@ use Rattle.intake.proofs.fields.figure.Goals as goal
 
 pub digits-requires : goal.digits-requires
 digits-requires c =
-    let f = figured_at c.args.number c.element.result.chars.now c.requires.numeric c.element.ensures.sound in
+    let f = figured_at c.args.number c.in_ok-element.field-0.chars.now c.requires c.in_ok-element.ensures.1.sound in
     (f.some, omega (arith, f.most, f.near), f.decimals)
 
 pub returns : goal.returns
 returns c =
-    let f = figured_at c.args.number c.element.result.chars.now c.requires.numeric c.element.ensures.sound in
-    record {
-      value = c.digits.ensures.value ∙ ap (digits_value 10) c.element.ensures.chars;
-      small = figured_small _ c.element.result.chars.now c.digits.result f c.digits.ensures.small;
-    }
+    let e = c.in_ok-element.ensures in
+    let f = figured_at c.args.number c.in_ok-element.field-0.chars.now c.requires e.1.sound in
+    (e.0, (c.digits.ensures.value ∙ ap (digits_value 10) e.1.chars, figured_small _ c.in_ok-element.field-0.chars.now c.digits.result f c.digits.ensures.small))

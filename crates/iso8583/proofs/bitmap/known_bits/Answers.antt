@@ -1,11 +1,13 @@
-use Rattle.std.proofs.Common.{◌-◌, ◌^◌, ◌<◌, ◌||◌, eqb, length, get_or, take, sym, ap, ◌∙◌, arith}
+use Rattle.std.proofs.Common.{◌-◌, ◌^◌, ◌<◌, ◌||◌, eqb, length, get_or, take, sym, ap, ◌∙◌, arith, rules}
 use mathlib.Core.Bool.{or-false, or_assoc}
-use Rattle.std.proofs.lemmas.List.{take_all}
 use Rattle.iso8583.specs.Bitmap.{marked}
 use Rattle.elements.specs.Table.{table, blank, known}
 use Rattle.iso8583.proofs.Bits.{marked_or, marked_bit}
-use Rattle.elements.proofs.Rows.{in_table, known_more}
+use Rattle.elements.proofs.Rows.{in_table, known_more, row_range}
 use Rattle.iso8583.proofs.bitmap.known_bits.Goals as goal
+
+pub bit-bits-requires-in-loop-row : goal.bit-bits-requires-in-loop-row
+bit-bits-requires-in-loop-row c = search (rules, row_range)
 
 pub loop-row-init : goal.loop-row-init
 loop-row-init c k l h =
@@ -23,15 +25,3 @@ loop-row-preserved c k l h =
     ∙ ap (λ b. (eqb 1 k || known (take i table) k) || b) (marked_bit (get_or table i blank).element k (omega (arith, range.0)) range.1 l h)
     ∙ or_assoc (eqb 1 k) (known (take i table) k) (eqb (get_or table i blank).element k)
     ∙ ap (λ b. eqb 1 k || b) (sym (known_more table i blank k within))
-
-pub returns : goal.returns
-returns c k l h =
-    c.loop-row.invariant k l h ∙ ap (λ rs. eqb 1 k || known rs k) (take_all c.loop-row.row-index table (omega (arith, ap length c.rows-row-items.ensures)))
-
-pub bit-bits-requires-in-loop-row : goal.bit-bits-requires-in-loop-row
-bit-bits-requires-in-loop-row c =
-    let i = c.loop-row.row-index in
-    let same = c.rows-row-items.ensures in
-    let range = in_table i blank (omega (arith, ap length same)) in
-    let here = ap (λ rs. (get_or rs i blank).element) same in
-    (omega (arith, here, range.0), omega (arith, here, range.1))

@@ -1,17 +1,12 @@
-use Rattle.std.proofs.Common.{sym, arith}
+use Rattle.std.proofs.Common.{sym, rules}
 use Rattle.iso8583.proofs.Strangers.{strange_refused, empty_refused, all_known}
 use Rattle.iso8583.proofs.bitmap.known_marks.Goals as goal
 
 pub returns-then-strange-ne0 : goal.returns-then-strange-ne0
-returns-then-strange-ne0 c =
-    strange_refused c.args.bitmap c.known_bits.result (omega arith) (omega arith) c.known_bits.ensures c.if-strange-ne0.true
+returns-then-strange-ne0 c = search (rules, strange_refused)
 
 pub returns-then-second_is_empty : goal.returns-then-second_is_empty
-returns-then-second_is_empty c =
-    empty_refused c.args.bitmap c.known_bits.result (omega arith) (omega arith) c.known_bits.ensures c.if-strange-ne0.false
-    (sym c.if-second_is_empty.ensures)
+returns-then-second_is_empty c = let e = sym c.if-second_is_empty.ensures in search (rules, empty_refused)
 
 pub returns : goal.returns
-returns c =
-    all_known c.args.bitmap c.known_bits.result (omega arith) (omega arith) c.known_bits.ensures c.if-strange-ne0.false
-    (sym c.if-second_is_empty.ensures)
+returns c = let e = sym c.if-second_is_empty.ensures in search (rules, all_known)

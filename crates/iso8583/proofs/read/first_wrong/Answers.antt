@@ -1,22 +1,20 @@
-use Rattle.std.proofs.Common.{length, sym, ◌∙◌, arith}
+use Rattle.std.proofs.Common.{not, sym, ◌∙◌, rules, tests, None, Some}
+use Rattle.std.proofs.lemmas.Iterator.{YieldsList-from_slice}
+use Rattle.std.proofs.lemmas.Iterator.Adapters.{position_from-zero}
+use Rattle.std.proofs.lemmas.Iterator.Search.{position_from_yields_List}
 use Rattle.elements.specs.Table.{fits}
-use Rattle.iso8583.proofs.Wrong.{wrong_none, wrong_more, wrong_here, wrong_all}
+use Rattle.iso8583.proofs.Wrong.{wrong_by_position}
 use Rattle.iso8583.proofs.read.first_wrong.Goals as goal
 
-pub loop-i-init : goal.loop-i-init
-loop-i-init c = sym (wrong_none (fits c.args.format) (length c.args.chars.now) c.args.start c.args.chars.now)
-
-pub returns-then-not-fits : goal.returns-then-not-fits
-returns-then-not-fits c =
+pub returns-in_err-place : goal.returns-in_err-place
+returns-in_err-place c =
     let cs = c.args.chars.now in
-    sym (c.loop-i.invariant ∙ wrong_here (fits c.args.format) (length cs) c.args.start cs c.loop-i.i (omega arith) (omega arith) (sym c.if-not-fits.ensures))
-
-pub loop-i-preserved : goal.loop-i-preserved
-loop-i-preserved c =
-    let cs = c.args.chars.now in
-    c.loop-i.invariant ∙ wrong_more (fits c.args.format) (length cs) c.args.start cs c.loop-i.i (omega arith) (omega arith) (sym c.if-not-fits.ensures)
+    let at = position_from_yields_List (λ x. not (fits c.args.format x)) _ _ c.position.result c.position.ensures.ran (YieldsList-from_slice cs c.iter.ensures.rest) (λ x b q h. search (rules, tests)) in
+    c.from_residual.ensures
+    ∙ wrong_by_position (fits c.args.format) c.args.start cs None (sym c.in_err-place.was ∙ at ∙ position_from-zero (λ x. not (fits c.args.format x)) cs)
 
 pub returns : goal.returns
 returns c =
     let cs = c.args.chars.now in
-    sym (c.loop-i.invariant ∙ wrong_all (fits c.args.format) (length cs) c.args.start cs c.loop-i.i (omega arith))
+    let at = position_from_yields_List (λ x. not (fits c.args.format x)) _ _ c.position.result c.position.ensures.ran (YieldsList-from_slice cs c.iter.ensures.rest) (λ x b q h. search (rules, tests)) in
+    wrong_by_position (fits c.args.format) c.args.start cs (Some c.in_ok-place.place) (sym c.in_ok-place.was ∙ at ∙ position_from-zero (λ x. not (fits c.args.format x)) cs)

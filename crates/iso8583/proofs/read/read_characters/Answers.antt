@@ -1,4 +1,4 @@
-use Rattle.std.proofs.Common.{◌≡◌, ℕ, ◌+◌, ◌-◌, ◌≤◌, List, length, take, Some, None, Option, Result, sym, ap, ◌∙◌, arith}
+use Rattle.std.proofs.Common.{◌≡◌, ℕ, ◌+◌, ◌≤◌, List, length, take, Some, None, Option, Result, sym, ap, ◌∙◌, rules}
 use Rattle.std.proofs.lemmas.Bool.{cond-true, le-leb}
 use Rattle.elements.specs.declared.fault.ElementFault.{ElementFault}
 use Rattle.elements.specs.declared.fault.ElementFault.TheVariants.{Character}
@@ -13,16 +13,17 @@ abbrev told : Row → ℕ → ℕ → Option ℕ → Result Found ElementFault
 told row start n o = unless o (λ i. Character row.element i) (record { element = row.element; start = start; end = start + n })
 
 -- what the first wrong character decides, once there are enough of them
-decided : (row : Row) (at start n : ℕ) (cs : List ℕ) (o : Option ℕ) → n ≤ length cs → o ≡ wrong (fits row.format) (length (take (n - 0) cs)) start (take (n - 0) cs) → told row start n o ≡ characters row at start n cs
-decided row at start n cs o l e =
-    let z : n - 0 ≡ n = omega arith in
-    ap (told row start n) (e ∙ ap (λ m. wrong (fits row.format) (length (take m cs)) start (take m cs)) z ∙ wrong_taken (fits row.format) n start cs l)
+decided : (row : Row) (at start n : ℕ) (cs chars : List ℕ) (o : Option ℕ) → n ≤ length cs → chars ≡ take n cs → o ≡ wrong (fits row.format) (length chars) start chars → told row start n o ≡ characters row at start n cs
+decided row at start n cs chars o l t e =
+    ap (told row start n) (e ∙ ap (λ m. wrong (fits row.format) (length m) start m) t ∙ wrong_taken (fits row.format) n start cs l)
     ∙ sym (cond-true _ _ _ (le-leb n (length cs) l))
 
-pub returns-in-Some : goal.returns-in-Some
-returns-in-Some c =
-    decided c.args.row.now c.args.at c.args.start c.args.n c.args.rest.now (Some c.in-Some.place) (omega arith) c.in-Some.ensures
+pub returns-in-Some-first_wrong : goal.returns-in-Some-first_wrong
+returns-in-Some-first_wrong c =
+    decided c.args.row.now c.args.at c.args.start c.args.n c.args.rest.now c.in-Some.chars.now (Some c.in-Some-first_wrong.place)
+    (search rules) (search rules) c.in-Some-first_wrong.ensures
 
 pub returns : goal.returns
 returns c =
-    decided c.args.row.now c.args.at c.args.start c.args.n c.args.rest.now None (omega arith) c.in_default.ensures
+    decided c.args.row.now c.args.at c.args.start c.args.n c.args.rest.now c.in-Some.chars.now None
+    (search rules) (search rules) c.in_default-first_wrong.ensures

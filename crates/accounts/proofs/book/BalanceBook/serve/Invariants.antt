@@ -4,5 +4,9 @@ use Rattle.accounts.specs.Made.{called}
 use Rattle.accounts.specs.Views.{view}
 use Rattle.accounts.proofs.book.BalanceBook.serve.Given as goal
 
-abbrev pub invariant-loop-i : goal.invariant-loop-i
-invariant-loop-i l = Ran (view l.initial.self) (take l.i l.exchanges) (view l.self) × (map called l.exchanges ≡ map called l.initial.exchanges)
+abbrev pub invariant-loop-exchange : goal.invariant-loop-exchange
+invariant-loop-exchange l =
+    record {
+      ran : Ran (view l.fn.self) (take l.exchange-index l.exchanges) (view l.self);
+      calls : map called l.exchanges ≡ map called l.fn.exchanges;
+    }

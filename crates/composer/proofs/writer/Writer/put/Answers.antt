@@ -1,18 +1,26 @@
-use Rattle.std.proofs.Common.{◌≡◌, ℕ, ◌<◌, ◌≤◌, List, length, get_or, Ok, sym, ap, ◌∙◌}
-use Rattle.elements.specs.declared.table.Row.{Row}
-use Rattle.elements.specs.Table.{table, blank, admits}
-use Rattle.composer.specs.Writing.{checked}
-use Rattle.iso8583.proofs.Outcomes.{chosen_ok}
-use Rattle.elements.proofs.Rows.{short_in_table, admitted_short}
+use Rattle.std.proofs.Common.{◌≡◌, ◌-◌, ◌^◌, ap, ◌∙◌, rules, arith}
+use Rattle.elements.specs.Table.{table}
+use Rattle.elements.proofs.Rows.{proper_table}
+use Rattle.composer.proofs.Rests.{row_left, taken, cleared}
 use Rattle.composer.proofs.writer.Writer.put.Goals as goal
 
--- what was checked against a row of the table is short
-brief : (rs : List Row) (i : ℕ) (cs : List ℕ) → rs ≡ table → i < length table → Ok tt ≡ checked (get_or rs i blank) cs → length cs ≤ 99
-brief rs i cs same h ok =
-    let row = get_or table i blank in
-    let c = ok ∙ ap (λ l. checked (get_or l i blank) cs) same in
-    admitted_short row.length (length cs) (short_in_table i blank h) (chosen_ok (admits row.length (length cs)) _ _ tt (sym c)).0
+pub returns-in_err-check : goal.returns-in_err-check
+returns-in_err-check c = let first = row_left c.args.self.now.left c.next.ensures c.in_ok-row.ensures.ok_part in search rules
 
-pub lay_field-requires : goal.lay_field-requires
-lay_field-requires c =
-    brief c.rows.result.now c.in-Some.i c.args.chars.now c.rows.ensures c.in-Some.ensures.0 c.in_ok-check.ensures
+pub returns-in_err-self : goal.returns-in_err-self
+returns-in_err-self c = let first = row_left c.args.self.now.left c.next.ensures c.in_ok-row.ensures.ok_part in search rules
+
+pub bit-requires : goal.bit-requires
+bit-requires c =
+    let left = c.args.self.now.left in
+    let t = taken table 1 left _ _ proper_table (omega arith) (row_left left c.next.ensures c.in_ok-row.ensures.ok_part) in
+    (omega (arith, t.above), omega (arith, t.inside))
+
+pub returns : goal.returns
+returns c =
+    let left = c.args.self.now.left in
+    let first = row_left left c.next.ensures c.in_ok-row.ensures.ok_part in
+    let t = taken table 1 left _ _ proper_table (omega arith) first in
+    let same : c.args.element ≡ c.in_ok-row.row.now.element = omega arith in
+    let others = t.others _ (cleared c.in_ok-row.row.now.element left c.bit.result (omega (arith, t.above)) t.inside (c.bit.ensures ∙ ap (λ k. 2 ^ (128 - k)) same) c.bit.type_inv) in
+    search rules

@@ -1,22 +1,13 @@
-use Rattle.std.proofs.Common.{ℕ, ◌+◌, drop, Option, sym, ap, ◌∙◌, arith}
-use Rattle.std.proofs.lemmas.List.{drop_all}
-use Rattle.journal.specs.Places.{lesser, least_unsettled}
-use Rattle.journal.proofs.Tallies.{lesser_none, lesser_lesser, least_from}
+use Rattle.std.proofs.Common.{rules, ◌∙◌, sym}
+use Rattle.std.proofs.lemmas.Iterator.{YieldsList-from_slice}
+use Rattle.std.proofs.lemmas.Iterator.Adapters.{option_map_id}
+use Rattle.std.proofs.lemmas.Iterator.Consumers.{min_from_yields_List, YieldsList-from_filter_map}
+use Rattle.journal.specs.Places.{open_moment}
+use Rattle.journal.proofs.Tallies.{least_is}
 use Rattle.journal.proofs.journal.Journal.least_unsettled.Goals as goal
-
-pub loop-p-preserved : goal.loop-p-preserved
-loop-p-preserved c =
-    let full = c.args.self.now.full in
-    let l = c.loop-p.least in
-    let more = least_from c.args.self.now.places c.loop-p.p-index (omega arith) in
-    let grouped = lesser_lesser l c.open_moment.result (least_unsettled (drop (c.loop-p.p-index + 1) c.args.self.now.places)) in
-    let taken = c.lesser-least.ensures in
-    let here = c.open_moment.ensures in
-    let so_far = c.loop-p.invariant in
-    cc
 
 pub returns : goal.returns
 returns c =
-    let full = c.args.self.now.full in
-    let over = ap least_unsettled (drop_all c.loop-p.p-index c.args.self.now.places (omega arith)) in
-    sym (lesser_none c.loop-p.least) ∙ sym (ap (λ (o : Option ℕ). lesser c.loop-p.least o) over) ∙ c.loop-p.invariant
+    let ps = c.args.self.now.places in
+    let p = min_from_yields_List _ c.min.result c.min.ensures.ran (YieldsList-from_filter_map _ open_moment (YieldsList-from_slice ps cc) c.filter_map.ensures.closure (λ x r q k. search rules)) in
+    sym (option_map_id c.min.result) ∙ p ∙ least_is ps

@@ -1,11 +1,13 @@
-use Rattle.std.proofs.Common.{sym, ◌∙◌}
-use Rattle.lines.proofs.Kept.{shown_at, unkept_absent}
+use Rattle.std.proofs.Common.{sym, rules}
+use Rattle.lines.proofs.Kept.{found, not_there, shown_sole}
 use Rattle.lines.proofs.table.Lines.get.Goals as goal
 
-pub returns-in-Some : goal.returns-in-Some
-returns-in-Some g c =
-    let told = c.in-Some.ensures in
-    c.line_at.ensures ∙ sym (shown_at c.args.self.now.rows c.in-Some.i c.args.issuer c.args.number told.0 told.1 told.2)
+pub returns-in_default : goal.returns-in_default
+returns-in_default g c = sym (not_there c.args.self.now.rows c.args.key (search rules))
 
-pub returns-in-None : goal.returns-in-None
-returns-in-None g c = sym (unkept_absent c.args.self.now.rows c.args.issuer c.args.number c.in-None.ensures)
+pub returns : goal.returns
+returns g c =
+    let s = c.args.self.now in
+    let at = found s.rows c.in-Some.i c.args.key s.once (search rules) in
+    let e = shown_sole s.rows c.in-Some.i c.args.key at.0 at.1 at.2 in
+    search rules

@@ -8,7 +8,7 @@ use Rattle.sums.proofs.day.Day.count.Goals as goal
 
 pub count-requires : goal.count-requires
 unfolding sums_of
-count-requires c = (room_holds c.args.kind c.args.self.now.pairs c.args.acquirer c.args.issuer c.args.side c.requires.room, c.requires.small)
+count-requires c = room_holds c.args.kind c.args.self.now.pairs c.args.payment.acquirer c.args.payment.issuer c.args.payment.side c.requires
 
 pub invariant_of-self : goal.invariant_of-self
 unfolding sums_of
@@ -16,18 +16,17 @@ invariant_of-self c =
     let d = c.args.self.now in
     let t = d.pairs in
     let s = table_sums t in
-    let p = c.args.acquirer in
-    let q = c.args.issuer in
-    let x = c.count.result in
-    let e = sym (counted_placed t p q c.args.side c.args.amount x d.full d.square c.requires.banks.0 c.requires.banks.1 c.args.kind c.count.ensures) in record {
-      full = full_placed t p q x d.full;
-      square = square_placed t p q x d.full d.square c.requires.banks.0;
-      approved = subst (ApprovedWithin 512) e (approved_after c.args.kind s p q c.args.side c.args.amount c.requires.small c.requires.room d.approved);
-      reversed = subst (ReversedWithin 512) e (reversed_after c.args.kind s p q c.args.side c.args.amount c.requires.small c.requires.room d.reversed);
+    let p = c.args.payment in
+    let x = c.count.new.self in
+    let e = sym (counted_placed t p x d.full d.square c.args.kind c.count.ensures) in record {
+      full = full_placed t p.acquirer p.issuer x d.full;
+      square = square_placed t p.acquirer p.issuer x d.full d.square p.banks.0;
+      approved = subst (ApprovedWithin 512) e (approved_after c.args.kind s p c.requires d.approved);
+      reversed = subst (ReversedWithin 512) e (reversed_after c.args.kind s p c.requires d.reversed);
     }
 
 pub returns : goal.returns
 unfolding sums_of
 returns c =
     let d = c.args.self.now in
-    counted_placed d.pairs c.args.acquirer c.args.issuer c.args.side c.args.amount c.count.result d.full d.square c.requires.banks.0 c.requires.banks.1 c.args.kind c.count.ensures
+    counted_placed d.pairs c.args.payment c.count.new.self d.full d.square c.args.kind c.count.ensures

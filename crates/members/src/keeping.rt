@@ -1,0 +1,24 @@
+// Lists that are kept whole or not at all.
+ghost use Rattle.std.specs.Prelude.{Bool, List};
+ghost use Rattle.members.specs.Each.{KeepsBy, AllKept};
+
+use arrayvec::ArrayVec;
+
+// What is kept of each item, which `keep` tells from it and those that come after it. None where one may not be kept,
+// or where there is no room for all.
+pub(crate) fn all_kept<T, U: Default + Drop, const MOST: usize, F: Fn(&T, &[T]) -> Option<U>>(
+    items: &[T],
+    keep: F,
+) -> Option<ArrayVec<U, MOST>>
+    requires { F.IsAlwaysCallable keep }
+    ensures { (test : T → List T → Bool) (form : T → U) → KeepsBy F.Fn keep test form → AllKept test form MOST items.now result }
+{
+    if items.len() > MOST {
+        return None;
+    }
+    let mut kept = ArrayVec::new();
+    for (i, item) in items.iter().enumerate() {
+        kept.push(keep(item, &items[i + 1..])?);
+    }
+    Some(kept)
+}
