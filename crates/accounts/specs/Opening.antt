@@ -13,6 +13,10 @@ is_card c = nat_le 1 c.count && nat_le c.count 19 && nat_lt c.digits (10 ^ c.cou
 abbrev pub good : Account → Bool
 good a = is_card a.card && int_le (pos 0) a.balance && int_le a.balance (pos 1000000000000000)
 
+-- what lies at a place that has no account
+abbrev pub no_account : Account
+no_account = record { card = record { digits = 0; count = 0 }; balance = pos 0 }
+
 -- the card has an account in the list
 abbrev pub listed : List Account → Card → Bool
 listed xs c = list_any (λ a. same_card a.card c) xs

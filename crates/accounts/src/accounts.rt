@@ -1,6 +1,6 @@
 // Accounts: a balance for each card.
 ghost use Rattle.std.specs.Prelude.{◌≡◌, false};
-ghost use Rattle.accounts.specs.Opening.{good};
+ghost use Rattle.accounts.specs.Opening.{good, no_account};
 
 use arrayvec::ArrayVec;
 use host::line::Card;
@@ -18,13 +18,11 @@ pub struct Account {
 // What lies at a place that has no account: no card has no digits, so none could be opened like that.
 impl Default for Account {
     fn default() -> Account
-        ensures { good result ≡ false }
+        ensures blank { result ≡ no_account }
+        ensures bad { good result ≡ false }
     {
         Account {
-            card: Card {
-                digits: 0,
-                count: 0,
-            },
+            card: Card::default(),
             balance: 0,
         }
     }

@@ -16,10 +16,6 @@ abbrev pub prefixed : List Found → Result (List Found) MessageFault → Result
 prefixed es (Ok fs) = Ok (es ++ fs)
 prefixed es (Err f) = Err f
 
-prefixed_none : (r : Result (List Found) MessageFault) → prefixed [] r ≡ r
-prefixed_none (Ok fs) = refl
-prefixed_none (Err f) = refl
-
 prefixed_more : (es : List Found) (e : Found) (r : Result (List Found) MessageFault) → prefixed es (before e r) ≡ prefixed (es ++ e ∷ []) r
 prefixed_more es e (Ok fs) = ap (λ l. Ok l) (sym (append_assoc es (e ∷ []) fs))
 prefixed_more es e (Err f) = refl
