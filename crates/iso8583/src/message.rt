@@ -10,7 +10,7 @@ use elements::table::ROWS;
 
 mod methods;
 
-// A message over the bytes that it was read from, made by `Message::read` alone. Every message that exists is what the format
+// A message over the bytes that it was read from, made by `Message::read`, or a clone of one. Every message that exists is what the format
 // says of its bytes: its elements lie inside them, in rising order and without gap, from the bitmaps' end to the last byte.
 #[derive(Drop)]
 pub struct Message<'a> {
