@@ -19,6 +19,10 @@ pub record Reading (base : Base) (bs : List ℕ) (at n place v : ℕ) : Type 0 w
   pub small : v < radix base ^ (place - at)
   pub from : at ≤ place
 
+-- what a decimal digit is worth, by its character
+digit_value-decimal : (c : ℕ) → decimal c ≡ true → digit_value c ≡ c - 48
+digit_value-decimal c h = grind (arith, nat_tests)
+
 digit_small : (base : Base) (c : ℕ) → is_digit base c ≡ true → digit_value c < radix base
 digit_small Decimal c h = grind (arith, nat_tests)
 digit_small Hexadecimal c h = grind (arith, nat_tests)

@@ -6,7 +6,7 @@ use Rattle.std.proofs.lemmas.Bool.{and_parts, or_cases, eqb-true, ltb-true, leb-
 use Rattle.elements.specs.declared.table.Length.{Length}
 use Rattle.elements.specs.declared.table.Length.TheVariants.{Fixed, UpTo}
 use Rattle.elements.specs.declared.table.Row.{Row}
-use Rattle.elements.specs.Table.{table, known}
+use Rattle.elements.specs.Table.{table, known, admits}
 
 -- two digits can write each length
 abbrev pub short : Length → Bool
@@ -46,6 +46,19 @@ in_range low (r ∷ rs) (suc i) d t h =
 
 pub in_table : (i : ℕ) (d : Row) → i < length table → (1 < (get_or table i d).element) × ((get_or table i d).element ≤ 128)
 in_table i d h = in_range 1 table i d proper_table h
+
+-- every length can be written in two digits
+short_at : (low : ℕ) (rs : List Row) (i : ℕ) (d : Row) → proper low rs ≡ true → i < length rs → short (get_or rs i d).length ≡ true
+short_at low [] i d t h = absurd (omega arith)
+short_at low (r ∷ rs) zero d t h = (proper_first low r rs t).brief
+short_at low (r ∷ rs) (suc i) d t h = short_at r.element rs i d (proper_first low r rs t).others (omega arith)
+
+pub short_in_table : (i : ℕ) (d : Row) → i < length table → short (get_or table i d).length ≡ true
+short_in_table i d h = short_at 1 table i d proper_table h
+
+pub admitted_short : (l : Length) (n : ℕ) → short l ≡ true → admits l n ≡ true → n ≤ 99
+admitted_short (Fixed m) n s a = omega (arith, eqb-true n m a, leb-true m 99 s)
+admitted_short (UpTo m) n s a = omega (arith, leb-true n m (and_parts (leb 1 n) (leb n m) a).1, leb-true m 99 s)
 
 known-push : (rs : List Row) (r : Row) (k : ℕ) → known (rs ++ r ∷ []) k ≡ (known rs k || eqb r.element k)
 known-push [] r k = or-false (eqb r.element k)

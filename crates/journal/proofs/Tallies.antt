@@ -61,6 +61,17 @@ pub undone_over : (ps : Places) (i : ℕ) (x e : Entry) → i < length ps → ge
 undone_over ps i x e lt there =
     let was = ap as_undone there in let moved = tally-set as_undone ps i (Some e) lt in omega arith
 
+-- the lesser of numbers that may be missing, in any grouping
+pub lesser_none : (a : Option ℕ) → lesser a None ≡ a
+lesser_none None = refl
+lesser_none (Some m) = refl
+
+pub lesser_lesser : (a b c : Option ℕ) → lesser (lesser a b) c ≡ lesser a (lesser b c)
+lesser_lesser None b c = refl
+lesser_lesser (Some m) None c = refl
+lesser_lesser (Some m) (Some n) None = refl
+lesser_lesser (Some m) (Some n) (Some k) = ap Some (omega arith)
+
 -- as the library counts the open places, and finds the least moment
 pub open_counted : (ps : Places) → count_by is_open ps ≡ tally as_unsettled ps
 open_counted [] = refl

@@ -19,6 +19,13 @@ approved_more n s acquirer issuer side amount h within m p q = one_above m n (s 
 pub reversed_more : (n : ℕ) (s : Sums) (acquirer issuer : ℕ) (side : Side) (amount : ℕ) → amount ≤ 1000000000000 → ReversedWithin n s → ReversedWithin (n + 1) (with_reversal s acquirer issuer side amount)
 reversed_more n s acquirer issuer side amount h within m p q = one_above m n (s (reversals m) p q) (share m acquirer issuer side amount p q) (within m p q) (share_most m acquirer issuer side amount p q h)
 
+-- neither adds to the figures of the other
+pub approved_stays : (n : ℕ) (s : Sums) (acquirer issuer : ℕ) (side : Side) (amount : ℕ) → ApprovedWithin n s → ApprovedWithin n (with_reversal s acquirer issuer side amount)
+approved_stays n s acquirer issuer side amount within = within
+
+pub reversed_stays : (n : ℕ) (s : Sums) (acquirer issuer : ℕ) (side : Side) (amount : ℕ) → ReversedWithin n s → ReversedWithin n (with_approval s acquirer issuer side amount)
+reversed_stays n s acquirer issuer side amount within = within
+
 pub none_approved : ApprovedWithin 0 no_sums
 none_approved m p q = omega arith
 
