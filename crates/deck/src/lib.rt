@@ -1,10 +1,11 @@
 // The commands of a deck, and how they are read from its text.
 #![tactic(auto)]
 
-ghost use Rattle.std.specs.Prelude.{◌≡◌, map, Some, None, Ok, Err, MatchResult};
+ghost use Rattle.std.specs.Prelude.{◌≡◌, if◌then◌else◌, map, Some, None, Ok, Err, is_some, MatchResult};
 ghost use Rattle.std.specs.Option.{option_map, ok_or};
 ghost use Rattle.deck.specs.Deck.{meant, keyword_of, number_alone, asked_by, asked, with_line, Blames, lines, asked_from, hex_fault};
-ghost use Rattle.deck.specs.declared.LineFault.TheVariants.{Command, Memory};
+ghost use Rattle.deck.specs.Text.{hex_bytes};
+ghost use Rattle.deck.specs.declared.LineFault.TheVariants.{Command, Digits, Memory};
 
 use hex::FromHexError;
 use std::alloc::{AllocError, AllocFailed, Global};
@@ -115,6 +116,18 @@ fn number_alone(text: &[u8]) -> Option<u64>
     }
 }
 
+// The bytes that pairs of hexadecimal digits write. `decode` asks for their memory before it looks at a digit, so the digits
+// are looked at first: a wrong one is told without asking for any, however little memory there is.
+#[tactic(auto, using(crate::proofs::Digits::wrong, crate::proofs::Digits::failed))]
+fn hex_bytes(heap: Global, digits: &[u8]) -> Result<Vec<u8>, LineFault>
+    ensures { MatchResult result (λ v. hex_bytes digits.now ≡ Some v.items) (λ e. e ≡ (if is_some (hex_bytes digits.now) then Memory else Digits)) }
+{
+    if !text::is_hexadecimal(digits) {
+        return Err(LineFault::Digits);
+    }
+    Ok(hex::decode(heap, digits)?)
+}
+
 impl Command {
     // The command that a keyword begins, with the text behind it.
     fn read(heap: Global, keyword: Keyword, text: &[u8]) -> Result<Command, LineFault>
@@ -125,7 +138,7 @@ impl Command {
             Keyword::Show => Ok(Command::Show(text::without_blanks(heap, text)?)),
             Keyword::Hex => {
                 let digits = text::without_blanks(heap, text)?;
-                Ok(Command::Message(hex::decode(heap, digits)?))
+                Ok(Command::Message(hex_bytes(heap, &digits)?))
             }
             Keyword::Room => {
                 let n = number_alone(text).ok_or(LineFault::Number)?;

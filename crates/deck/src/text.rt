@@ -1,5 +1,8 @@
-// The text of a deck: its bytes cut at blanks and read as words and numbers. They need not be UTF-8, so it is no `str`.
+// The text of a deck: its bytes cut at blanks and read as words, numbers and hexadecimal digits. They need not be UTF-8, so
+// it is no `str`.
 ghost use Rattle.std.specs.Prelude.{◌≡◌, IfOk};
+ghost use Rattle.std.specs.List.{list_all};
+ghost use Rattle.hex.specs.Hex.{is_hex_digit};
 ghost use Rattle.deck.specs.Text.{blank, before, behind, first_word, after_word, without_blanks, number_in};
 
 use std::alloc::{AllocError, Global};
@@ -40,6 +43,14 @@ pub(crate) fn without_blanks(heap: Global, text: &[u8]) -> Result<Vec<u8>, Alloc
     ensures { IfOk result (λ v. v.items ≡ without_blanks text.now) }
 {
     text.iter().copied().filter(|c| !is_blank(*c)).collect(heap)
+}
+
+// Whether all bytes are hexadecimal digits, of either case.
+#[tactic(auto, using(crate::proofs::Digits::same_digit))]
+pub(crate) fn is_hexadecimal(text: &[u8]) -> bool
+    ensures { result ≡ list_all is_hex_digit text.now }
+{
+    text.iter().all(u8::is_ascii_hexdigit)
 }
 
 // A number of 1 to 18 digits, without a sign.
