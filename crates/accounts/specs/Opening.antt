@@ -1,5 +1,5 @@
 -- Which accounts a book may be opened with.
-use Rattle.std.specs.Prelude.{◌^◌, Bool, true, not, ◌&&◌, List, [], ◌∷◌, length, pos, int_le, nat_le, nat_lt}
+use Rattle.std.specs.Prelude.{ℕ, ◌-◌, ◌^◌, Bool, true, not, ◌&&◌, List, [], ◌∷◌, length, replicate, pos, int_le, nat_le, nat_lt}
 use Rattle.std.specs.List.{list_any}
 use Rattle.host.specs.declared.line.Card.{Card}
 use Rattle.accounts.specs.Balances.{same_card}
@@ -16,6 +16,10 @@ good a = is_card a.card && int_le (pos 0) a.balance && int_le a.balance (pos 100
 -- what lies at a place that has no account
 abbrev pub no_account : Account
 no_account = record { card = record { digits = 0; count = 0 }; balance = pos 0 }
+
+-- the places that have no account, behind n that have one
+unfoldable pub blank_from : ℕ → List Account
+blank_from n = replicate (256 - n) no_account
 
 -- the card has an account in the list
 abbrev pub listed : List Account → Card → Bool

@@ -1,5 +1,5 @@
 -- What the balance book means, and what else its calls are told by.
-use Rattle.std.specs.Prelude.{◌≡◌, ℕ, Bool, false, List}
+use Rattle.std.specs.Prelude.{◌≡◌, ℕ, Bool, false, List, take}
 use Rattle.host.specs.Meaning.{Meaning}
 use Rattle.host.specs.declared.ask.PostAnswer.{PostAnswer}
 use Rattle.host.specs.declared.ask.ReverseAnswer.{ReverseAnswer}
@@ -9,7 +9,12 @@ use Rattle.lines.specs.Answers.{places_left}
 use Rattle.lines.specs.Rows.{shown, free}
 use Rattle.accounts.specs.Answers.{book_answer, book_reverse, accounts_after_post, accounts_after_reverse}
 use Rattle.accounts.specs.declared.accounts.Account.{Account}
+use Rattle.accounts.specs.declared.accounts.Accounts.{Accounts}
 use Rattle.accounts.specs.declared.book.BalanceBook.{BalanceBook}
+
+-- the accounts that were opened, in their order
+abbrev pub accounts_of : Accounts → List Account
+accounts_of a = take a.count a.places
 
 -- the lines of its table; it holds no pair
 abbrev pub kept_by : BalanceBook → Meaning
@@ -22,7 +27,7 @@ pub record Book : Type 0 where
   pub free : ℕ
 
 abbrev pub view : BalanceBook → Book
-view s = record { host = kept_by s; accounts = s.accounts.all.items; free = free s.lines.rows }
+view s = record { host = kept_by s; accounts = accounts_of s.accounts; free = free s.lines.rows }
 
 -- places are taken and given back with the line of the key
 abbrev pub Places : Book → Key → Book → Type 0

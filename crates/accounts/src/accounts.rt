@@ -1,8 +1,7 @@
 // Accounts: a balance for each card.
-ghost use Rattle.std.specs.Prelude.{◌≡◌, false};
-ghost use Rattle.accounts.specs.Opening.{good, no_account};
+ghost use Rattle.std.specs.Prelude.{◌≡◌, ◌≤◌, false, drop, length};
+ghost use Rattle.accounts.specs.Opening.{good, no_account, blank_from};
 
-use arrayvec::ArrayVec;
 use host::line::Card;
 
 // The most accounts of a book.
@@ -28,8 +27,13 @@ impl Default for Account {
     }
 }
 
-// At most that many accounts, in the order in which they were opened.
-#[derive(Clone, Drop)]
+// At most that many accounts, in the order in which they were opened: the first `count` places. The others are blank, so the same
+// accounts are the same value. An array with a count, since an `ArrayVec` is no `Copy`.
+#[derive(Clone, Copy)]
 pub struct Accounts {
-    pub(crate) all: ArrayVec<Account, ACCOUNTS>,
+    pub(crate) places: [Account; ACCOUNTS],
+    pub(crate) count: usize,
+    ghost full: { length places ≡ 256 },
+    ghost few: { count ≤ 256 },
+    ghost rest: { drop count places ≡ blank_from count },
 }

@@ -6,9 +6,9 @@ ghost use Rattle.host.specs.declared.line.Line.TheVariants.{Absent};
 ghost use Rattle.accounts.specs.Answers.{accounts_after_post, accounts_after_reverse, StaysBack};
 ghost use Rattle.accounts.specs.Balances.{balance_of, same_card, booked, booked_on, bounded, stays, with_booking, opposite, undoing};
 ghost use Rattle.accounts.specs.Opening.{good, listed, single, sound};
+ghost use Rattle.accounts.specs.Views.{accounts_of};
 
 use crate::accounts::{ACCOUNTS, Account, Accounts};
-use arrayvec::ArrayVec;
 use host::ask::{PostAnswer, ReverseAnswer};
 use host::line::{Card, Details, Line, Side};
 
@@ -101,26 +101,39 @@ fn are_single(accounts: &[Account]) -> bool
 impl Accounts {
     // Opens accounts, or refuses them all.
     pub fn open(accounts: &[Account]) -> Result<Accounts, BadAccounts>
-        ensures { MatchResult result (λ a. (sound accounts.now ≡ true) × (a.all.items ≡ accounts.now)) (λ _. sound accounts.now ≡ false) }
+        ensures { MatchResult result (λ a. (sound accounts.now ≡ true) × (accounts_of a ≡ accounts.now)) (λ _. sound accounts.now ≡ false) }
     {
-        match ArrayVec::try_from(accounts) {
-            Ok(all) if are_single(accounts) => Ok(Accounts { all }),
-            _ => Err(BadAccounts),
+        let count = accounts.len();
+        if count > ACCOUNTS || !are_single(accounts) {
+            return Err(BadAccounts);
         }
+        let mut places = [Account::default(); ACCOUNTS];
+        places[..count].copy_from_slice(accounts);
+        Ok(Accounts { places, count })
+    }
+
+    // The accounts that were opened, without the places behind them.
+    fn opened(&self) -> &[Account]
+        ensures { result.now ≡ accounts_of self.now }
+    {
+        let count = self.count;
+        &self.places[..count]
     }
 
     // The place of a card's account.
     fn find(&self, card: &Card) -> Option<usize>
-        ensures { result ≡ position (λ a. same_card a.card card.now) self.now.all.items }
+        ensures { result ≡ position (λ a. same_card a.card card.now) (accounts_of self.now) }
     {
-        self.all.iter().position(|account| account.card == *card)
+        self.opened()
+            .iter()
+            .position(|account| account.card == *card)
     }
 
     // What a card has, if it has an account.
     pub fn balance(&self, card: &Card) -> Option<i64>
-        ensures { result ≡ balance_of self.now.all.items card.now }
+        ensures { result ≡ balance_of (accounts_of self.now) card.now }
     {
-        self.all
+        self.opened()
             .iter()
             .find(|account| account.card == *card)
             .map(|account| account.balance)
@@ -128,27 +141,27 @@ impl Accounts {
 
     // Whether a booking would leave the balance in its bounds.
     pub fn stays(&self, details: &Details) -> bool
-        ensures { result ≡ stays (balance_of self.now.all.items details.now.card) details.now }
+        ensures { result ≡ stays (balance_of (accounts_of self.now) details.now.card) details.now }
     {
         self.balance(&details.card)
             .is_none_or(|balance| after_booking(balance, details).is_some())
     }
 
     // Books an amount on a card.
-    #[tactic(auto, using(crate::proofs::Finds::read, crate::proofs::Finds::booking, crate::proofs::Finds::no_booking))]
+    #[tactic(auto, using(crate::proofs::Finds::read_here, crate::proofs::Finds::booking_here, crate::proofs::Finds::no_booking))]
     pub fn book(&mut self, details: &Details)
-        requires { stays (balance_of self.old.all.items details.now.card) details.now ≡ true }
-        ensures { self.new.all.items ≡ with_booking self.old.all.items details.now }
+        requires { stays (balance_of (accounts_of self.old) details.now.card) details.now ≡ true }
+        ensures { accounts_of self.new ≡ with_booking (accounts_of self.old) details.now }
     {
         if let Some(i) = self.find(&details.card) {
-            self.all[i] = booked_on(self.all[i], details);
+            self.places[i] = booked_on(self.places[i], details);
         }
     }
 
     // A line that becomes posted is booked, once.
     pub fn post(&mut self, found: Line, details: &Details, answer: PostAnswer)
-        requires { found ≡ Absent → answer ≡ posting.Posted → stays (balance_of self.old.all.items details.now.card) details.now ≡ true }
-        ensures { self.new.all.items ≡ accounts_after_post self.old.all.items found details.now answer }
+        requires { found ≡ Absent → answer ≡ posting.Posted → stays (balance_of (accounts_of self.old) details.now.card) details.now ≡ true }
+        ensures { accounts_of self.new ≡ accounts_after_post (accounts_of self.old) found details.now answer }
     {
         if let (Line::Absent, PostAnswer::Posted) = (found, answer) {
             self.book(details);
@@ -157,8 +170,8 @@ impl Accounts {
 
     // A posted or leaving line that is closed is booked back, once.
     pub fn reverse(&mut self, found: Line, answer: ReverseAnswer)
-        requires { answer ≡ reversing.Done → StaysBack self.old.all.items found }
-        ensures { self.new.all.items ≡ accounts_after_reverse self.old.all.items found answer }
+        requires { answer ≡ reversing.Done → StaysBack (accounts_of self.old) found }
+        ensures { accounts_of self.new ≡ accounts_after_reverse (accounts_of self.old) found answer }
     {
         if let (Line::Posted(booked) | Line::Leaving(booked), ReverseAnswer::Done) = (
             found, answer,
