@@ -12,7 +12,7 @@ use host::ask::{ForgetAnswer, PostAnswer, ReverseAnswer};
 use host::line::{Details, Key, Line, Side};
 use host::log::Log;
 use host::{Host, code};
-use lines::change::{after_post, after_reverse, repeat};
+use lines::change::{after_post, repeat};
 use lines::table::Lines;
 
 // How many lines it keeps.
@@ -64,7 +64,8 @@ impl LimitHost {
 }
 
 // Each host that keeps lines takes these steps: the line found, the answer, the line left, the log. What else a host knows and
-// changes stands between them, so a function over its rule would have to ask of the rule what each host shows here by itself.
+// changes stands between them, so a function over its rule would have to ask of the rule what each host shows here by itself. In a
+// reverse of this host nothing does, so `close` takes the first three at once, and looks for the place once.
 impl Host for LimitHost {
     ghost meaning = { limited };
 
@@ -76,7 +77,8 @@ impl Host for LimitHost {
     {
         let found = self.lines.get(key);
         let answer = self.answer(found, &details);
-        self.lines.put(key, after_post(found, details, answer));
+        let left = after_post(found, details, answer);
+        self.lines.change(key, found, left);
         self.log.posted(key, details, must_stand, answer);
         answer
     }
@@ -87,9 +89,7 @@ impl Host for LimitHost {
         ensures places { PlacesKept self.old.lines.rows key self.new.lines.rows }
         ensures same { self.new.limit ≡ self.old.limit }
     {
-        let found = self.lines.get(key);
-        let answer = self.lines.reverse_outcome(found);
-        self.lines.put(key, after_reverse(found, answer));
+        let answer = self.lines.close(key);
         self.log.reversed(key, answer);
         answer
     }

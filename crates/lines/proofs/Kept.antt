@@ -10,8 +10,9 @@ use Rattle.std.proofs.lemmas.Bool.{cond-true, cond-false, cases_Bool, and_parts,
 use Rattle.host.specs.declared.line.Key.{Key}
 use Rattle.host.specs.declared.line.Line.{Line}
 use Rattle.host.specs.declared.line.Line.TheVariants.{Absent, Posted, Adrift, Leaving, Closed}
+use Rattle.host.specs.declared.ask.ReverseAnswer.TheVariants.{Done}
 use Rattle.lines.specs.declared.table.Row.{Row}
-use Rattle.lines.specs.Answers.{present, room_for}
+use Rattle.lines.specs.Answers.{reverse_answer, present, room_for, places_left}
 use Rattle.lines.specs.Rows.{taken_by, line_at, shown, one_free, free, place_of, lowest_free, alone, distinct, Others, Leaves}
 
 -- an empty table
@@ -162,9 +163,20 @@ none_at p xs e k d l =
 pub not_there : (ps : List (Option Row)) (key : Key) → place_of ps key ≡ None → shown ps key.issuer key.number ≡ Absent
 not_there ps key e = none_absent ps key (λ k l. none_at _ ps e k None l)
 
--- nothing changes where no place has the key, and none is to have it
+-- nothing changes where a line stays as it is
+places_stay : (l : Line) (n : ℕ) → places_left l l n ≡ n
+places_stay Absent n = refl
+places_stay (Posted d) n = refl
+places_stay (Adrift d) n = refl
+places_stay (Leaving d) n = refl
+places_stay Closed n = refl
+
+pub leaves_same : (ps : List (Option Row)) (key : Key) (l : Line) → shown ps key.issuer key.number ≡ l → Leaves ps key l ps
+leaves_same ps key l e = record { here = e; others = λ i m o. refl; left = rw e (sym (places_stay l (free ps))) }
+
+-- nor where no place has the key, and none is to have it
 pub leaves_none : (ps : List (Option Row)) (key : Key) → place_of ps key ≡ None → Leaves ps key Absent ps
-leaves_none ps key n = let e = not_there ps key n in record { here = e; others = λ i m o. refl; left = rw e refl }
+leaves_none ps key n = leaves_same ps key Absent (not_there ps key n)
 
 -- the place that a key has is the only one
 pub found : (ps : List (Option Row)) (i : ℕ) (key : Key) → distinct ps ≡ true → place_of ps key ≡ Some i → (i < length ps) × Ours (get_or ps i None) key × Sole ps i key
@@ -211,6 +223,28 @@ place_is ps key l None e w h = free_known ps ∙ rw (not_there ps key e, w) at h
 -- where there is room for a line, there is a place for it
 pub has_place : (ps : List (Option Row)) (key : Key) (l : Line) → present l ≡ true → room_for (shown ps key.issuer key.number) l (free ps) ≡ true → IsSome (option_or (place_of ps key) (lowest_free ps))
 has_place ps key l w h = place_is ps key l (place_of ps key) refl w h
+
+-- where there is no place for a key, it has no line, and no place is free
+unplaced_is : (ps : List (Option Row)) (key : Key) (o p : Option ℕ) → place_of ps key ≡ o → lowest_free ps ≡ p → option_or o p ≡ None → (shown ps key.issuer key.number ≡ Absent) × (free ps ≡ 0)
+unplaced_is ps key (Some i) p e f h = absurd (cc)
+unplaced_is ps key None p e f h = (not_there ps key e, all_taken ps (λ k l. none_at _ ps (f ∙ h) k None l))
+
+pub unplaced : (ps : List (Option Row)) (key : Key) → option_or (place_of ps key) (lowest_free ps) ≡ None → (shown ps key.issuer key.number ≡ Absent) × (free ps ≡ 0)
+unplaced ps key h = unplaced_is ps key (place_of ps key) (lowest_free ps) refl refl h
+
+-- where there is one, the key has a line or a place is free, so that a reverse is done
+done_if : (l : Line) (n : ℕ) → (present l ≡ false → 0 < n) → reverse_answer n l ≡ Done
+done_if Absent n h = let w = h refl in grind (arith, nat_tests)
+done_if (Posted d) n h = refl
+done_if (Adrift d) n h = refl
+done_if (Leaving d) n h = refl
+done_if Closed n h = refl
+
+pub done_placed : (ps : List (Option Row)) (i : ℕ) (key : Key) → distinct ps ≡ true → i < length ps → Ours (get_or ps i None) key → Sole ps i key → reverse_answer (free ps) (shown ps key.issuer key.number) ≡ Done
+done_placed ps i key o h u s =
+    let at = present_at ps i o h in
+    let moved = free-set ps i (Some (record { key = key; line = Closed })) h in
+    rw (shown_sole ps i key h u s) (done_if _ (free ps) (λ w. omega (arith, rw w at at)))
 
 pub present_if : (l : Line) → (l ≡ Absent → ⊥) → present l ≡ true
 present_if Absent n = absurd (n refl)

@@ -1,6 +1,6 @@
 ghost use Rattle.std.specs.Prelude.{◌≡◌, ℕ, true, ◌≢◌, nat_lt};
 ghost use Rattle.std.specs.Option.{option_or};
-ghost use Rattle.host.specs.Meaning.{forgotten, forgetting_answer};
+ghost use Rattle.host.specs.Meaning.{reversed, forgotten, forgetting_answer};
 ghost use Rattle.host.specs.declared.line.Line.TheVariants.{Absent};
 ghost use Rattle.lines.specs.Answers.{room_for, reverse_answer};
 ghost use Rattle.lines.specs.Rows.{shown, free, place_of, lowest_free, Leaves};
@@ -86,6 +86,17 @@ impl<const N: usize> Lines<N> {
         }
     }
 
+    // Keeps the line left in the stead of the one found. One that stays as it is has its place already, and is not looked for again.
+    pub fn change(&mut self, key: Key, found: Line, left: Line)
+        requires found { found ≡ shown self.old.rows key.issuer key.number }
+        requires room { room_for found left (free self.old.rows) ≡ true }
+        ensures { Leaves self.old.rows key left self.new.rows }
+    {
+        if left != found {
+            self.put(key, left);
+        }
+    }
+
     // What a reverse of the line found is to be answered: only a new line can want for a place.
     pub fn reverse_outcome(&self, found: Line) -> ReverseAnswer
         ensures { result ≡ reverse_answer (free self.now.rows) found }
@@ -94,6 +105,22 @@ impl<const N: usize> Lines<N> {
             Line::Absent if !self.has_room() => ReverseAnswer::Silence,
             _ => ReverseAnswer::Done,
         }
+    }
+
+    // Closes the line of a key, or keeps a closed one where there was none; silent where that finds no place. It need not know which
+    // line it closes, so its place is looked for once.
+    pub fn close(&mut self, key: Key) -> ReverseAnswer
+        ensures answer { result ≡ reverse_answer (free self.old.rows) (shown self.old.rows key.issuer key.number) }
+        ensures lines { Leaves self.old.rows key (reversed (shown self.old.rows key.issuer key.number) result) self.new.rows }
+    {
+        let Some(place) = place_for(&self.rows, key) else {
+            return ReverseAnswer::Silence;
+        };
+        self.rows[place] = Some(Row {
+            key,
+            line: Line::Closed,
+        });
+        ReverseAnswer::Done
     }
 
     // Forgets the line of a key that is not held, if it is settled.
