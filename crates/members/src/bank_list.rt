@@ -2,10 +2,10 @@ ghost use Rattle.std.specs.Prelude.{◌≡◌, ◌<◌, ◌≤◌, cond, length,
 ghost use Rattle.members.specs.Codes.{place_in, code_at, proper_code};
 ghost use Rattle.members.specs.Members.{codes_of, Opened};
 
-use crate::banks::Banks;
-use crate::keeping::all_kept;
+use crate::banks::{Banks, MOST_BANKS};
+use crate::keeping::{all_kept, laid_out};
+use arrayvec::ArrayVec;
 use elements::fault::SwitchFault;
-use std::alloc::AllocError;
 
 // The highest code that a bank can have: eleven digits.
 const HIGHEST_CODE: u64 = 99_999_999_999;
@@ -34,15 +34,18 @@ impl Banks {
             return Err(SwitchFault::Banks);
         }
         let kept = all_kept(codes, |code, later| proper(*code, later).then_some(*code));
-        let codes = kept.ok_or(SwitchFault::Banks)?;
-        Ok(Banks { codes })
+        let codes: ArrayVec<u64, MOST_BANKS> = kept.ok_or(SwitchFault::Banks)?;
+        Ok(Banks {
+            codes: laid_out(&codes),
+            count: codes.len(),
+        })
     }
 
     // How many they are.
     pub fn count(&self) -> usize
         ensures { (result ≡ length (codes_of self.now)) × ((1 ≤ result) × (result ≤ 16)) }
     {
-        self.codes.len()
+        self.count
     }
 
     // The place of the bank with this code.
@@ -50,7 +53,8 @@ impl Banks {
         ensures which { result ≡ place_in (codes_of self.now) code }
         ensures within { IfSome result (λ i. (i < 16) × (i < length (codes_of self.now))) }
     {
-        let place = place_in(&self.codes, code)?;
+        let count = self.count;
+        let place = place_in(&self.codes[..count], code)?;
         Some(place as u8)
     }
 
@@ -58,17 +62,7 @@ impl Banks {
     pub fn code(&self, place: u8) -> Option<u64>
         ensures { result ≡ code_at (codes_of self.now) place }
     {
-        self.codes.get(usize::from(place)).copied()
-    }
-}
-
-impl Clone for Banks {
-    ghost is_clone = { λ a b. b.codes.items ≡ a.codes.items };
-
-    ghost is_infallible = { λ _. Unit {0} };
-
-    fn clone(&self) -> Result<Banks, AllocError> {
-        let codes = self.codes.clone()?;
-        Ok(Banks { codes })
+        let count = self.count;
+        self.codes[..count].get(usize::from(place)).copied()
     }
 }

@@ -1,14 +1,15 @@
-ghost use Rattle.std.specs.Prelude.{◌≡◌, true};
+ghost use Rattle.std.specs.Prelude.{◌≡◌, ◌≤◌, true, take};
 ghost use Rattle.members.specs.Codes.{sound_banks};
-
-use arrayvec::ArrayVec;
 
 // How many banks there can be.
 pub const MOST_BANKS: usize = 16;
 
-// The codes of the banks. Banks that exist can be opened: 1 to 16 codes, none twice.
-#[derive(Drop)]
+// The codes of the banks, of which the first `count` count. Banks that exist can be opened: 1 to 16 codes, none twice.
+// An array with a count, which `few` bounds: an `ArrayVec` would bound it by itself, but is not `Copy`.
+#[derive(Clone, Copy)]
 pub struct Banks {
-    pub(crate) codes: ArrayVec<u64, MOST_BANKS>,
-    ghost sound: { sound_banks codes.items ≡ true },
+    pub(crate) codes: [u64; MOST_BANKS],
+    pub(crate) count: usize,
+    ghost few: { count ≤ 16 },
+    ghost sound: { sound_banks (take count codes) ≡ true },
 }

@@ -1,5 +1,5 @@
 // Lists that are kept whole or not at all.
-ghost use Rattle.std.specs.Prelude.{Bool, List};
+ghost use Rattle.std.specs.Prelude.{◌≡◌, ◌≤◌, Bool, List, length, take};
 ghost use Rattle.members.specs.Each.{KeepsBy, AllKept};
 
 use arrayvec::ArrayVec;
@@ -21,4 +21,14 @@ pub(crate) fn all_kept<T, U: Default + Drop, const MOST: usize, F: Fn(&T, &[T]) 
         kept.push(keep(item, &items[i + 1..])?);
     }
     Some(kept)
+}
+
+// What was kept, at the front of an array, which can be copied where an `ArrayVec` cannot.
+pub(crate) fn laid_out<T: Copy + Default, const MOST: usize>(kept: &[T]) -> [T; MOST]
+    requires { length kept.now ≤ MOST }
+    ensures { take (length kept.now) result ≡ kept.now }
+{
+    let mut all = [T::default(); MOST];
+    all[..kept.len()].copy_from_slice(kept);
+    all
 }

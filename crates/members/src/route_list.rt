@@ -3,12 +3,12 @@ ghost use Rattle.members.specs.Members.{codes_of, routes_of, Routed};
 ghost use Rattle.members.specs.Routing.{among, proper_route, way_of, better, longest, route_of, Issued};
 
 use crate::banks::Banks;
-use crate::keeping::all_kept;
+use crate::keeping::{all_kept, laid_out};
 use crate::prefix::Prefix;
-use crate::routes::{Route, Routes, Way};
+use crate::routes::{MOST_ROUTES, Route, Routes, Way};
+use arrayvec::ArrayVec;
 use elements::fault::SwitchFault;
 use host::line::Card;
-use std::alloc::AllocError;
 
 // Whether some route has this prefix.
 fn among(prefix: &Prefix, routes: &[Route]) -> bool
@@ -58,15 +58,18 @@ impl Routes {
         ensures { Routed (codes_of banks.now) routes.now result }
     {
         let kept = all_kept(routes, |route, later| way(banks, route, later));
-        let ways = kept.ok_or(SwitchFault::Routes)?;
-        Ok(Routes { ways })
+        let ways: ArrayVec<Way, MOST_ROUTES> = kept.ok_or(SwitchFault::Routes)?;
+        Ok(Routes {
+            ways: laid_out(&ways),
+            count: ways.len(),
+        })
     }
 
     // How many they are.
     pub fn count(&self) -> usize
         ensures { (result ≡ length (routes_of self.now)) × (result ≤ 64) }
     {
-        self.ways.len()
+        self.count
     }
 
     // The place of the bank that issued a card: that of the longest prefix which the card begins with.
@@ -75,17 +78,7 @@ impl Routes {
         ensures longest { Issued (routes_of self.now) card.now result }
         ensures within { IfSome result (λ i. i < 16) }
     {
-        longest(&self.ways, card).map(|way| way.issuer)
-    }
-}
-
-impl Clone for Routes {
-    ghost is_clone = { λ a b. b.ways.items ≡ a.ways.items };
-
-    ghost is_infallible = { λ _. Unit {0} };
-
-    fn clone(&self) -> Result<Routes, AllocError> {
-        let ways = self.ways.clone()?;
-        Ok(Routes { ways })
+        let count = self.count;
+        longest(&self.ways[..count], card).map(|way| way.issuer)
     }
 }

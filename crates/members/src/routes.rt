@@ -1,7 +1,6 @@
-ghost use Rattle.std.specs.Prelude.{◌<◌, All};
+ghost use Rattle.std.specs.Prelude.{◌<◌, ◌≤◌, take, All};
 
 use crate::prefix::Prefix;
-use arrayvec::ArrayVec;
 
 // How many routes there can be.
 pub const MOST_ROUTES: usize = 64;
@@ -21,9 +20,12 @@ pub struct Way {
     pub issuer: u8,
 }
 
-// The routes of a switch. Every issuer is one of 16 banks.
-#[derive(Drop)]
+// The routes of a switch, of which the first `count` count. Every issuer is one of 16 banks.
+// An array with a count, which `few` bounds: an `ArrayVec` would bound it by itself, but is not `Copy`.
+#[derive(Clone, Copy)]
 pub struct Routes {
-    pub(crate) ways: ArrayVec<Way, MOST_ROUTES>,
-    ghost banks: { All (λ w. w.issuer < 16) ways.items },
+    pub(crate) ways: [Way; MOST_ROUTES],
+    pub(crate) count: usize,
+    ghost few: { count ≤ 64 },
+    ghost banks: { All (λ w. w.issuer < 16) (take count ways) },
 }

@@ -1,4 +1,4 @@
-use Rattle.std.proofs.Common.{rules, length, ◌<◌, ◌≤◌, arith, subst, sym}
+use Rattle.std.proofs.Common.{◌≡◌, ◌<◌, ◌≤◌, map, length, take, rules, arith, subst, sym}
 use Rattle.std.proofs.lemmas.Bool.Decides.{nat_tests}
 use Rattle.std.specs.List.{All}
 use Rattle.members.proofs.Places.{ways_near}
@@ -7,12 +7,13 @@ use Rattle.members.specs.Members.{codes_of}
 use Rattle.members.specs.Routing.{proper_route, way_of}
 use Rattle.members.proofs.routes.Routes.open.Goals as goal
 
-pub invariant_of-result : goal.invariant_of-result
-invariant_of-result c =
+pub invariant_of-result-clause-banks : goal.invariant_of-result-clause-banks
+invariant_of-result-clause-banks c =
     let codes = codes_of c.args.banks.now in
     let kept = subst (AllKept (proper_route codes) (way_of codes) _ c.args.routes.now) c.in_ok-ways.ensures.ok_part (c.all_kept-kept.ensures (proper_route codes) (way_of codes) (search rules)) in
     let few : length codes ≤ 16 = grind (arith, nat_tests, c.args.banks.now.sound) in
-    record { banks = subst (All (λ w. w.issuer < 16)) (sym kept.1) (ways_near codes c.args.routes.now few) }
+    let laid : take c.len.result c.laid_out.result ≡ map (way_of codes) c.args.routes.now = cc in
+    subst (All (λ w. w.issuer < 16)) (sym laid) (ways_near codes c.args.routes.now few)
 
 pub returns : goal.returns
 returns c =
