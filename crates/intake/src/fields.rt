@@ -6,7 +6,7 @@ ghost use Rattle.elements.specs.Moments.{moment_of};
 ghost use Rattle.elements.specs.Originals.{parts, SizedOriginal};
 ghost use Rattle.intake.specs.Conforms.{figures, chars_in, told, Stands, Required};
 ghost use Rattle.intake.specs.Orders.{text_of, elements_of, card_of};
-ghost use Rattle.intake.specs.Sizes.{SizedCard, SizedParticulars};
+ghost use Rattle.intake.specs.Sizes.{TenDigits, SizedCard, SizedParticulars};
 
 use crate::order::Particulars;
 use elements::fault::SwitchFault;
@@ -56,11 +56,11 @@ pub(crate) fn card(message: &Message) -> Result<Card, SwitchFault>
     })
 }
 
-// Element 7: a moment, if its digits are one.
-fn moment(message: &Message) -> Result<Option<Moment>, SwitchFault>
-    ensures { Required message.now 7 (λ m. m ≡ moment_of (chars_in message.now 7)) result }
+// Element 7: the number of a moment, if its digits are one.
+fn moment(message: &Message) -> Result<Option<u64>, SwitchFault>
+    ensures { Required message.now 7 (λ m. (m ≡ moment_of (chars_in message.now 7)) × TenDigits m) result }
 {
-    Ok(Moment::read(element(message, 7)?.chars))
+    Ok(Moment::read(element(message, 7)?.chars).map(Moment::number))
 }
 
 // Element 90, taken apart. A message that was read has 42 digits there.

@@ -1,6 +1,5 @@
 // What the switch is asked for, in plain numbers. How large they can be is told by specs/Sizes where an order is made, and not by
 // ghost fields here: the rules build these records from the bytes, and would have to carry the proofs.
-use elements::moment::Moment;
 use elements::original::Original;
 use host::line::Card;
 use journal::entry::Kind;
@@ -17,8 +16,9 @@ pub enum Service {
 pub struct Particulars {
     // Element 4.
     pub amount: u64,
-    // Element 7, if its digits are a moment.
-    pub moment: Option<Moment>,
+    // Element 7: the number of a moment, or none where the digits are no moment. It is not a Moment itself: that type has a model, and
+    // a struct that holds one is no longer copied where it is passed by value.
+    pub moment: Option<u64>,
     // Element 11.
     pub trace: u32,
     // Element 32 as a number, whether or not a bank has it.

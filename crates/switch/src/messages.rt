@@ -121,7 +121,6 @@ impl<H: Host> Switch<H> {
         if p.particulars.amount == 0 {
             return code::INVALID_AMOUNT;
         }
-        let moment = moment.number();
         let number = number::join(acquirer, moment, p.particulars.trace);
         let terms = terms(p);
         if let Some(held) = self.books.find(number) {
