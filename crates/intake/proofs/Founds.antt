@@ -136,11 +136,11 @@ body_least bits = cond_both (marked bits 1) 36 20 (λ n. 20 ≤ n) (λ m. omega 
 
 -- in a whole message
 module _ (m : Message) (k : ℕ) (f : Found) (e : found_of (elements_of m) k ≡ Some f) where
-  sound_if : reading (text_of m) ≡ Ok (parts_of m) → Sound table (body m.bitmap) k (text_of m) f
+  sound_if : reading (text_of m) ≡ Ok (parts_of m) → Sound table (body m.layout.bitmap) k (text_of m) f
   sound_if h =
       let bs = text_of m in
-      let bits = m.bitmap in
-      let w = taken_apart bs m.mti bits (elements_of m) h in
+      let bits = m.layout.bitmap in
+      let w = taken_apart bs m.layout.mti bits (elements_of m) h in
       let n : length (take (body bits) bs) ≡ body bits = length-take-le (body bits) bs (bits_long bs bits w.mapped) in
       subst (λ a. Sound table a k bs f) n
       (found_sound table bits k (take (body bits) bs) (drop (body bits) bs) bs (elements_of m) f (sym (take-append-drop (body bits) bs))
@@ -150,4 +150,4 @@ module _ (m : Message) (k : ℕ) (f : Found) (e : found_of (elements_of m) k ≡
   found_conforms = ∥∥₁_elim m.whole (≡_prop coded_bool _ _) (λ h. (sound_if h).conforming)
 
   pub found_behind : 20 ≤ f.start
-  found_behind = ∥∥₁_elim m.whole le_prop (λ h. omega (arith, (sound_if h).behind, body_least m.bitmap))
+  found_behind = ∥∥₁_elim m.whole le_prop (λ h. omega (arith, (sound_if h).behind, body_least m.layout.bitmap))

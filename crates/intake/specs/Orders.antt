@@ -100,7 +100,7 @@ abbrev pub elements_of : Message → List Found
 elements_of m = (parts_of m).elements
 
 abbrev pub asked_by : Message → Result Order SwitchFault
-asked_by m = asked (service_of m.mti) (text_of m) (elements_of m)
+asked_by m = asked (service_of m.layout.mti) (text_of m) (elements_of m)
 
 -- a message's fault is the switch's
 abbrev pub lifted : {A : Type 0} → Result A MessageFault → Result A SwitchFault

@@ -12,7 +12,7 @@ pub record Takes (bs : List ℕ) (room : ℕ) (m : Message) (o : Order) : Type 0
   pub is : ordered bs room ≡ Ok o
   pub lies : Lies bs m
   pub small : Sized o
-  pub known : m.mti ≤ 421
+  pub known : m.layout.mti ≤ 421
   pub short : length bs ≤ 2048
   pub roomy : 96 ≤ room
 

@@ -68,7 +68,7 @@ impl Order {
     pub fn of(message: &Message) -> Result<Order, SwitchFault>
         ensures value { result ≡ asked_by message.now }
         ensures small { IfOk result Sized }
-        ensures known { OnOk result (message.now.mti ≤ 421) }
+        ensures known { OnOk result (message.now.layout.mti ≤ 421) }
     {
         match Service::of(message.mti()).ok_or(SwitchFault::Mti)? {
             Service::Present(kind) => presentment(message, kind),

@@ -8,7 +8,6 @@ use Rattle.iso8583.specs.declared.found.Found.{Found}
 use Rattle.iso8583.specs.Bitmap.{marked}
 use Rattle.iso8583.specs.Reading.{after, before, body, lifted, elements, sized}
 use Rattle.elements.specs.Table.{table, blank}
-use Rattle.iso8583.specs.Walked.{Walked}
 use Rattle.iso8583.proofs.Elements.{spelt}
 
 -- what was found already, before what is found yet
@@ -60,7 +59,7 @@ module _ (bs : List ℕ) (bits : ℕ) where
     ended : length table ≤ i → rest_of bs bits i at ≡ elements [] bits at (drop at bs)
     ended h = ap (λ rs. elements rs bits at (drop at bs)) (drop_all i table h)
 
-    pub walk_trails : length table ≤ i → at < length bs → Walked bs bits (Err (Trailing at))
+    pub walk_trails : length table ≤ i → at < length bs → elements table bits (body bits) (drop (body bits) bs) ≡ Err (Trailing at)
     walk_trails h l = w.so_far ∙ ap (prefixed found) (ended h ∙ ap (elements [] bits at) (drop_more bs at 0 l))
 
 pub walking_on : {bs : List ℕ} {bits i at at' : ℕ} {found found' : List Found} → at' ≡ at → found' ≡ found → Walking bs bits i at found → Walking bs bits i at' found'

@@ -1,16 +1,33 @@
 -- What a message that was read says.
-use Rattle.std.specs.Prelude.{◌≡◌, ℕ, Bool, ◌&&◌, List, Some, None, Ok, Err, Option, Result, ◌==◌}
+use Rattle.std.specs.Prelude.{◌≡◌, ℕ, ◌≤◌, Bool, ◌&&◌, List, length, take, Some, None, Ok, Err, Option, Result, ◌==◌}
 use Rattle.std.specs.List.{between, find}
 use Rattle.elements.specs.declared.fault.MessageFault.{MessageFault}
 use Rattle.iso8583.specs.declared.found.Found.{Found}
 use Rattle.iso8583.specs.declared.message.Element.{Element}
+use Rattle.iso8583.specs.declared.message.Layout.{Layout}
 use Rattle.iso8583.specs.declared.message.Message.{Message}
 use Rattle.iso8583.specs.Bitmap.{marked}
 use Rattle.iso8583.specs.Reading.{Parts, parts, reading}
 use Rattle.elements.specs.Table.{within}
 
+abbrev pub layout_parts : Layout → Parts
+layout_parts l = parts l.mti l.bitmap (take l.count l.found)
+
+-- the layout is what the format finds in the bytes
+pub record LiesIn (bs : List ℕ) (l : Layout) : Type 0 where
+  pub few : l.count ≤ length l.found
+  pub found : reading bs ≡ Ok (layout_parts l)
+
+-- the bytes are a message that is laid out so, or the format refuses them
+abbrev pub LaidOut : List ℕ → Result Layout MessageFault → Type 0
+LaidOut bs (Ok l) = LiesIn bs l
+LaidOut bs (Err f) = reading bs ≡ Err f
+
+abbrev pub layout_of : Message → Layout
+layout_of m = m.layout
+
 abbrev pub parts_of : Message → Parts
-parts_of m = parts m.mti m.bitmap m.found.items
+parts_of m = layout_parts m.layout
 
 -- the message is over these bytes, and what the format finds in them
 pub record Lies (bs : List ℕ) (m : Message) : Type 0 where
@@ -24,7 +41,7 @@ Read bs (Err f) = reading bs ≡ Err f
 
 -- element k is marked; bit 1 marks no element
 abbrev pub present : Message → ℕ → Bool
-present m k = within 2 128 k && marked m.bitmap k
+present m k = within 2 128 k && marked m.layout.bitmap k
 
 -- the element with a number, if there is one
 abbrev pub found_of : List Found → ℕ → Option Found

@@ -1,26 +1,34 @@
 // A message over the bytes that it was read from.
-ghost use Rattle.std.specs.Prelude.{◌≡◌, ◌≤◌, length, Ok};
+ghost use Rattle.std.specs.Prelude.{◌≡◌, ◌≤◌, length, take, Ok};
 ghost use Rattle.std.specs.List.{between};
 ghost use Rattle.iso8583.specs.Reading.{reading, parts, body};
 ghost use Rattle.iso8583.specs.Tiled.{Tiled};
 
 use crate::found::Found;
-use arrayvec::ArrayVec;
 use elements::table::ROWS;
 
 mod methods;
 
-// A message over the bytes that it was read from, made by `Message::read`, or a clone of one. Every message that exists is what the format
-// says of its bytes: its elements lie inside them, in rising order and without gap, from the bitmaps' end to the last byte.
-#[derive(Drop)]
-pub struct Message<'a> {
-    bytes: &'a [u8],
+// Where the parts of a message lie in its bytes: the type, the bitmap, and the offsets of the elements, of which `found` has `count`.
+// It is kept without the bytes and copied, and an `ArrayVec` has no `Copy`: so an array, with the count beside it.
+#[derive(Clone, Copy)]
+pub struct Layout {
     mti: u16,
     bitmap: u128,
-    // Where the elements lie.
-    found: ArrayVec<Found, ROWS>,
-    ghost whole: { ∥ reading bytes.now ≡ Ok (parts mti bitmap found.items) ∥₁ },
-    ghost tiled: { ∥ Tiled (body bitmap) 1 found.items (length bytes.now) ∥₁ },
+    found: [Found; ROWS],
+    count: usize,
+}
+
+// A message over the bytes that it was read from, made by `Message::read`, or by `Layout::over` of a layout that was read from the
+// same bytes. Every message that exists is what the format says of its bytes: its elements lie inside them, in rising order and without
+// gap, from the bitmaps' end to the last byte.
+#[derive(Clone, Copy)]
+pub struct Message<'a> {
+    bytes: &'a [u8],
+    layout: Layout,
+    ghost few: { layout.count ≤ length layout.found },
+    ghost whole: { ∥ reading bytes.now ≡ Ok (parts layout.mti layout.bitmap (take layout.count layout.found)) ∥₁ },
+    ghost tiled: { ∥ Tiled (body layout.bitmap) 1 (take layout.count layout.found) (length bytes.now) ∥₁ },
 }
 
 // An element of a message: its characters, a part of the message's own bytes, and their offset there.

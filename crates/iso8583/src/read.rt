@@ -6,7 +6,6 @@ ghost use Rattle.iso8583.specs.Walked.{Walked};
 
 use crate::bitmap::{body, is_marked, joined};
 use crate::found::Found;
-use arrayvec::ArrayVec;
 use elements::fault::{ElementFault, MessageFault};
 use elements::number::{Base, number, numeral};
 use elements::table::{Format, Length, ROWS, Row, rows};
@@ -92,25 +91,27 @@ fn read_element(row: &Row, at: usize, rest: &[u8]) -> Result<Found, ElementFault
     }
 }
 
-// Where the elements stand that a bitmap marks.
+// Puts to the front of `found` where the elements stand that a bitmap marks, and answers how many they are.
 pub(crate) fn read_elements(
     bytes: &[u8],
     bitmap: u128,
-) -> Result<ArrayVec<Found, ROWS>, MessageFault>
+    found: &mut [Found; ROWS],
+) -> Result<usize, MessageFault>
     requires { body bitmap ≤ length bytes.now }
-    ensures { Walked bytes.now bitmap result }
+    ensures { Walked bytes.now bitmap found.new result }
 {
-    let mut found = ArrayVec::new();
+    let mut count = 0;
     let mut at = body(bitmap);
     for row in rows() {
         if is_marked(bitmap, row.element) {
             let element = read_element(row, at, &bytes[at..])?;
-            found.push(element);
+            found[count] = element;
+            count += 1;
             at = element.end;
         }
     }
     if at < bytes.len() {
         return Err(MessageFault::Trailing { place: at });
     }
-    Ok(found)
+    Ok(count)
 }

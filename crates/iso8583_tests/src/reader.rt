@@ -1,6 +1,6 @@
 use crate::common::{QUESTION, check_told, told};
 use elements::fault::{Layer, Refusal};
-use iso8583::message::{Element, Message};
+use iso8583::message::{Element, Layout, Message};
 use std::process::Abort;
 use std::test::Fail;
 
@@ -102,6 +102,20 @@ fn a_clone_is_the_same_message(rt: HostRuntime) -> Result<(), Fail> {
     assert_eq!(rt; copy.mti(), 200);
     assert_eq!(rt; copy.element(32), element(32, 74, b"111"));
     assert_eq!(rt; copy.element(33), None);
+    Ok(())
+}
+
+#[test]
+fn a_layout_is_laid_over_moved_bytes(rt: HostRuntime) -> Result<(), Fail> {
+    let Ok(layout) = Layout::read(QUESTION) else {
+        return Err(Fail::new("refused"));
+    };
+    let mut moved = [0; 77];
+    moved.copy_from_slice(QUESTION);
+    let message = layout.over(&moved);
+    let copy = message;
+    assert_eq!(rt; message.element(32), element(32, 74, b"111"));
+    assert_eq!(rt; copy.element(32), layout.over(QUESTION).element(32));
     Ok(())
 }
 

@@ -52,7 +52,7 @@ module _ (m : Message) where
       ∥∥₁_elim m.whole (≡_prop coded_chars _ _)
       (λ w. ap (λ r. chars_in (after r (λ p. Ok (content p.mti (map (item_of bs) p.elements)))) k) w ∙ chars_found bs (parts_of m).elements k)
 
-  pub type_read : type_of bs ≡ m.mti
+  pub type_read : type_of bs ≡ m.layout.mti
   unfolding type_of
   type_read = ∥∥₁_elim m.whole (≡_prop coded_ℕ _ _) (λ w. ap (λ r. type_in (after r (λ p. Ok (content p.mti (map (item_of bs) p.elements))))) w)
 
@@ -64,7 +64,7 @@ module _ (m : Message) where
   pub came_present : (k : ℕ) → is_some (came bs k) ≡ present m k
   came_present k =
       ap is_some (came_found k) ∙ some_chars (found_of (parts_of m).elements k)
-      ∙ ∥∥₁_elim m.whole (≡_prop coded_bool _ _) (λ w. found_present bs m.mti m.bitmap (parts_of m).elements k (taken_apart _ _ _ _ w))
+      ∙ ∥∥₁_elim m.whole (≡_prop coded_bool _ _) (λ w. found_present bs m.layout.mti m.layout.bitmap (parts_of m).elements k (taken_apart _ _ _ _ w))
 
   -- and is lent with the characters that came
   pub came_not : (k : ℕ) → Handed m k None → came bs k ≡ None

@@ -20,14 +20,14 @@ pub record Whole (bs : List ℕ) (code : ℕ) (out : List ℕ) (r : Result ℕ M
   pub written : out' ≡ laid out 0 (answer bs code)
   pub reads : Reads bs code (take (length (answer bs code)) out')
 
-pub whole : (m : Message) (code : ℕ) (out out' : List ℕ) (r : Result ℕ MessageFault) → code ≤ 99 → m.mti ≤ 9989 → 96 ≤ length out → Steps (composed out (reply_type m.mti) (items_for (bytes_of m) code)) r out' → Whole (bytes_of m) code out r out'
+pub whole : (m : Message) (code : ℕ) (out out' : List ℕ) (r : Result ℕ MessageFault) → code ≤ 99 → m.layout.mti ≤ 9989 → 96 ≤ length out → Steps (composed out (reply_type m.layout.mti) (items_for (bytes_of m) code)) r out' → Whole (bytes_of m) code out r out'
 unfolding items_for
 whole m code out out' r small typed room steps =
     let bs = bytes_of m in
     let text = answer bs code in
     let is = along table (said bs code) in
     let short = answer_short bs code small in
-    let type : type_of bs ≡ m.mti = type_read m in
+    let type : type_of bs ≡ m.layout.mti = type_read m in
     let four : reply_type (type_of bs) ≤ 9999 = omega arith in
     let says = answer_says bs code small four in
     let goes =

@@ -23,7 +23,7 @@ struct Response<'a> {
     message: &'a Message<'a>,
     code: u8,
     ghost small: { code ≤ 99 },
-    ghost answered: { message.now.mti ≤ 9989 },
+    ghost answered: { message.now.layout.mti ≤ 9989 },
 }
 
 impl Response<'_> {
@@ -31,7 +31,7 @@ impl Response<'_> {
 
     // Its type: the third digit is raised by one, the last is 0.
     fn mti(&self) -> u16
-        ensures { result ≡ reply_type self.now.message.now.mti }
+        ensures { result ≡ reply_type self.now.message.now.layout.mti }
     {
         (self.message.mti() / 10 + 1) * 10
     }
@@ -46,7 +46,7 @@ impl Response<'_> {
 
     // Announces its elements.
     fn begin(&self, out: &mut [u8]) -> Result<Writer, MessageFault>
-        ensures { Started out.old (reply_type self.now.message.now.mti) (numbers_of (items_of self.now)) result out.new }
+        ensures { Started out.old (reply_type self.now.message.now.layout.mti) (numbers_of (items_of self.now)) result out.new }
     {
         let elements = REPLIED.iter().copied().filter(|number| self.has(*number));
         Writer::start_with(out, self.mti(), elements)
@@ -78,7 +78,7 @@ impl Response<'_> {
 
     // The steps of the writer, any of which might refuse.
     fn write(&self, out: &mut [u8]) -> Result<usize, MessageFault>
-        ensures { Steps (composed out.old (reply_type self.now.message.now.mti) (items_of self.now)) result out.new }
+        ensures { Steps (composed out.old (reply_type self.now.message.now.layout.mti) (items_of self.now)) result out.new }
     {
         let writer = self.begin(out)?;
         self.put_all(writer, out)
@@ -89,7 +89,7 @@ impl Response<'_> {
 // the table allows it, and no reply has more than 92 bytes: so the writer refuses none. A type above 9989 has no reply of four
 // digits.
 pub fn reply(out: &mut [u8], message: &Message, code: u8) -> usize
-    requires { (96 ≤ length out.old) × ((code ≤ 99) × (message.now.mti ≤ 9989)) }
+    requires { (96 ≤ length out.old) × ((code ≤ 99) × (message.now.layout.mti ≤ 9989)) }
     ensures long { result ≡ length (answer (bytes_of message.now) code) }
     ensures short { result ≤ 92 }
     ensures written { out.new ≡ laid out.old 0 (answer (bytes_of message.now) code) }

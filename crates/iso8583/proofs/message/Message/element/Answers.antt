@@ -14,11 +14,11 @@ use Rattle.iso8583.proofs.message.Message.element.Goals as goal
 -- what was found is there by the bitmap
 by_bitmap : (m : Message) (k : ℕ) → is_some (found_of (parts_of m).elements k) ≡ present m k
 by_bitmap m k =
-    ∥∥₁_elim m.whole (≡_prop coded_bool _ _) (λ w. found_present m.bytes.now m.mti m.bitmap m.found.items k (taken_apart _ _ _ _ w))
+    ∥∥₁_elim m.whole (≡_prop coded_bool _ _) (λ w. found_present m.bytes.now m.layout.mti m.layout.bitmap (parts_of m).elements k (taken_apart _ _ _ _ w))
 
 -- and lies in the message's bytes
 lies : (m : Message) (k : ℕ) (f : Found) → Some f ≡ found_of (parts_of m).elements k → ∥ Inside k (length m.bytes.now) f ∥₁
-lies m k f h = ∥∥₁_map m.tiled (λ t. inside m.found.items (body m.bitmap) 1 (length m.bytes.now) k f t h)
+lies m k f h = ∥∥₁_map m.tiled (λ t. inside (parts_of m).elements (body m.layout.bitmap) 1 (length m.bytes.now) k f t h)
 
 pub lend-requires : goal.lend-requires
 lend-requires c =
