@@ -16,8 +16,8 @@ pub enum Service {
 pub struct Particulars {
     // Element 4.
     pub amount: u64,
-    // Element 7: the number of a moment, or none where the digits are no moment. It is not a Moment itself: that type has a model, and
-    // a struct that holds one is no longer copied where it is passed by value.
+    // Element 7: the number of a moment, or none where the digits are no moment. It is not a `Moment` itself: that type has a
+    // model, and a struct that holds one gets no proof where it is passed by value and used again.
     pub moment: Option<u64>,
     // Element 11.
     pub trace: u32,

@@ -86,7 +86,7 @@ impl<const N: usize> Lines<N> {
         }
     }
 
-    // Keeps the line left in the stead of the one found. One that stays as it is has its place already, and is not looked for again.
+    // Keeps the line left in the stead of the one found. Where it stays as it is, there is nothing to write, and no place is looked for.
     pub fn change(&mut self, key: Key, found: Line, left: Line)
         requires found { found ≡ shown self.old.rows key.issuer key.number }
         requires room { room_for found left (free self.old.rows) ≡ true }

@@ -1,4 +1,4 @@
-ghost use Rattle.std.specs.Prelude.{◌≡◌, ◌≤◌, true, take};
+ghost use Rattle.std.specs.Prelude.{◌≡◌, ◌≤◌, true, length, take};
 ghost use Rattle.members.specs.Codes.{sound_banks};
 
 // How many banks there can be.
@@ -10,6 +10,7 @@ pub const MOST_BANKS: usize = 16;
 pub struct Banks {
     pub(crate) codes: [u64; MOST_BANKS],
     pub(crate) count: usize,
+    ghost room: { length codes ≡ 16 },
     ghost few: { count ≤ 16 },
     ghost sound: { sound_banks (take count codes) ≡ true },
 }

@@ -1,4 +1,4 @@
-ghost use Rattle.std.specs.Prelude.{◌<◌, ◌≤◌, take, All};
+ghost use Rattle.std.specs.Prelude.{◌≡◌, ◌<◌, ◌≤◌, length, take, All};
 
 use crate::prefix::Prefix;
 
@@ -26,6 +26,7 @@ pub struct Way {
 pub struct Routes {
     pub(crate) ways: [Way; MOST_ROUTES],
     pub(crate) count: usize,
+    ghost room: { length ways ≡ 64 },
     ghost few: { count ≤ 64 },
     ghost banks: { All (λ w. w.issuer < 16) (take count ways) },
 }
