@@ -116,16 +116,16 @@ fn number_alone(text: &[u8]) -> Option<u64>
     }
 }
 
-// The bytes that pairs of hexadecimal digits write. `decode` asks for their memory before it looks at a digit, so the digits
-// are looked at first: a wrong one is told without asking for any, however little memory there is.
+// The bytes that pairs of hexadecimal digits write. `decode` asks for their memory before it looks at a digit: so where there
+// is none, the digits are looked at here, and a wrong one is told as such, however little memory there is.
 #[tactic(auto, using(crate::proofs::Digits::wrong, crate::proofs::Digits::failed))]
 fn hex_bytes(heap: Global, digits: &[u8]) -> Result<Vec<u8>, LineFault>
     ensures { MatchResult result (λ v. hex_bytes digits.now ≡ Some v.items) (λ e. e ≡ (if is_some (hex_bytes digits.now) then Memory else Digits)) }
 {
-    if !text::is_hexadecimal(digits) {
-        return Err(LineFault::Digits);
+    match hex::decode(heap, digits) {
+        Err(FromHexError::OutOfMemory) if !text::is_hexadecimal(digits) => Err(LineFault::Digits),
+        decoded => Ok(decoded?),
     }
-    Ok(hex::decode(heap, digits)?)
 }
 
 impl Command {
